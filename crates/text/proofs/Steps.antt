@@ -1,0 +1,63 @@
+-- How code goes over a list: a step past one character or past ASCII (`Step`), and what is known where it stands (`Upto`).
+use Prim.Native.Nat.{ℕ, _+_, _-_, _≤_}
+use mathlib.Core.Path.{_≡_, refl, sym, _∙_}
+use mathlib.Core.List.{List, [], _∷_, _++_}
+use mathlib.Core.Bool.{Bool, true}
+use native.Mathlib.Omega.{arith}
+use lib.ListN.{length, take, drop, length-drop, take-append-drop}
+use lib.Seq.{drop-drop, take-all, length-take-le}
+use lib.Dec.{T, leb, leb→le}
+use borrow.Author.Tests.{le-leb}
+use Rattle.text.specs.Prefix.{charLength, goodPrefix, allPlain, PlainFor, Step}
+use Rattle.text.proofs.Chars.{begins, T-and}
+use Rattle.text.proofs.Meaning.{begun, step, stuck, good-within}
+
+pub char-step : (s : List ℕ) (n : ℕ) → n ≡ charLength s → Step s n
+char-step s n e = record {
+  inside = rw e (begun (begins s));
+  on = rw e (step s);
+  stuck = λ z. stuck s (sym e ∙ z);
+}
+
+plain-run : (p t : List ℕ) → T (allPlain p) → goodPrefix (p ++ t) ≡ length p + goodPrefix t
+unfolding charLength
+plain-run [] t h = omega arith
+plain-run (a ∷ p) t h =
+    let g = T-and (leb a 0x7F) (allPlain p) .0 h in
+    let e : charLength (a ∷ p ++ t) ≡ 1 = simp (le-leb a 0x7F (leb→le a 0x7F (g .0))) in
+    omega (arith, rw e at (step (a ∷ p ++ t)), plain-run p t (g .1))
+
+pub plain-step : (s : List ℕ) (t : Bool) → (t ≡ true → PlainFor 8 s) → t ≡ true → Step s 8
+plain-step s t h e =
+    let p = h e in
+    record {
+      inside = p .there;
+      on = rw (take-append-drop, length-take-le 8 s (p .there)) at (plain-run (take 8 s) (drop 8 s) (p .ascii));
+      stuck = λ z. absurd (omega arith);
+    }
+
+-- ---- the loop
+pub record Upto (s : List ℕ) (i : ℕ) : Type 0 where
+  pub inside : i ≤ length s
+  pub good : goodPrefix s ≡ i + goodPrefix (drop i s)
+
+pub start : (s : List ℕ) → Upto s 0
+start s = record { inside = omega arith; good = omega arith }
+
+-- the list that the code's `&s[i..]` is
+part : (s : List ℕ) (i : ℕ) → take (length s - i) (drop i s) ≡ drop i s
+part s i = take-all (length s - i) (drop i s) (omega (arith, length-drop i s))
+
+pub past : (s : List ℕ) (i n : ℕ) → Upto s i → Step (take (length s - i) (drop i s)) n → Upto s (i + n)
+past s i n u p =
+    let q : Step (drop i s) n = rw (part s i) at p in
+    record {
+      inside = omega (arith, length-drop i s);
+      good = rw (← drop-drop) (omega arith);
+    }
+
+pub stopped : (s : List ℕ) (i n : ℕ) → Upto s i → Step (take (length s - i) (drop i s)) n → n ≡ 0 → i ≡ goodPrefix s
+stopped s i n u p z = let q : Step (drop i s) n = rw (part s i) at p in omega (arith, q .stuck z)
+
+pub ended : (s : List ℕ) (i : ℕ) → Upto s i → length s ≤ i → i ≡ goodPrefix s
+ended s i u h = omega (arith, good-within (drop i s), length-drop i s)

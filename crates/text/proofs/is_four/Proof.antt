@@ -1,0 +1,7 @@
+-- `text::is_four` meets its contract, by what its callees ensure.
+use borrow.Author.Needs.{needs}
+use Rattle.text.proofs.is_four.Statement.{statement}
+use Rattle.text.proofs.is_four.Tie as tie
+
+pub is-four-spec : {M : Type 1} → statement M
+is-four-spec = tie.close (tie.spec (λ c κs. search needs) (λ c κs. search needs) (λ c κs. search needs) (λ c. simp (c .is-tail2 .ensures, c .before .is-tail .ensures, c .before .before .is-second .ensures)))
