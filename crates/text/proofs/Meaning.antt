@@ -1,16 +1,18 @@
 -- What `goodPrefix` means: the beginning of that length is text (`good-text`), no longer one is (`text-good`), and it is the whole list exactly where
--- the list is text (`whole-text`, `text-whole`). And the step by which code computes it (`step`, `stuck`).
+-- the list is text (`whole-text`, `text-whole`), also as a test (`is-text`, `text-is`). And the step by which code computes it (`step`, `stuck`).
 use Prim.Native.Nat.{ℕ, zero, suc, _+_, _≤_}
 use mathlib.Core.List.{List, [], _∷_, _++_, append-assoc}
 use mathlib.Core.Path.{_≡_, refl, sym, ap, _∙_}
 use native.Mathlib.Omega.{arith}
 use native.Mathlib.Nat.{zero-add}
 use native.Mathlib.Decide.{ℕ-discrete}
+use mathlib.Core.Bool.{Bool, true, false}
+use borrow.Author.Tests.{eqb-true, eq-eqb, ne-eqb}
 use lib.ListN.{length, take, drop, length-append, length-drop, take-append-drop}
 use lib.Seq.{length-take-le, take-add, take-length, drop-append-seam}
-use Rattle.text.specs.Rfc3629.{Text}
+use Rattle.text.specs.Rfc3629.{Text, Judged}
 use Rattle.text.specs.Rfc3629.Text.{none, more}
-use Rattle.text.specs.Prefix.{charLength, first, goodPrefix}
+use Rattle.text.specs.Prefix.{charLength, first, goodPrefix, isText}
 use Rattle.text.proofs.Chars.{Begins, begins, char-length}
 use Rattle.text.proofs.Chars.Begins.{nothing, char}
 
@@ -97,3 +99,18 @@ whole-text s e = rw (e, take-length) at (good-text s)
 
 pub text-whole : (s : List ℕ) → Text s → goodPrefix s ≡ length s
 text-whole s x = omega (arith, good-within s, text-good s (length s) (omega arith) (rw take-length x))
+
+-- ---- the same as a test
+pub is-text : (s : List ℕ) → isText s ≡ true → Text s
+unfolding isText
+is-text s e = whole-text s (eqb-true (goodPrefix s) (length s) e)
+
+pub text-is : (s : List ℕ) → Text s → isText s ≡ true
+unfolding isText
+text-is s x = eq-eqb (goodPrefix s) (length s) (text-whole s x)
+
+-- what `is_text` answers
+pub judged-is : (b : Bool) (s : List ℕ) → Judged b s → b ≡ isText s
+unfolding isText
+judged-is true s x = sym (text-is s x)
+judged-is false s x = sym (ne-eqb (goodPrefix s) (length s) (λ e. x (whole-text s e)))

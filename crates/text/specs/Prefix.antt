@@ -54,6 +54,9 @@ first (suc n) s = charLength s + first n (drop (charLength s) s)
 unfoldable pub goodPrefix : List ℕ → ℕ
 goodPrefix s = first (length s) s
 
+unfoldable pub isText : List ℕ → Bool
+isText s = eqb (goodPrefix s) (length s)
+
 -- ---- what the code's steps cite
 abbrev pub allPlain : List ℕ → Bool
 allPlain [] = true

@@ -1,0 +1,22 @@
+-- P1 to P12 hold, and so does the table of pitfalls: antt computes both.
+use mathlib.Core.Path.{_≡_, refl}
+use mathlib.Core.List.{map}
+use Rattle.text.specs.Prefix.{isText, goodPrefix, first, charLength, longer, low, high}
+use Rattle.layouts.specs.Primitive.{numberAt, numberBytes, padOf, atLeast}
+use Rattle.layouts.specs.Shape.{layout}
+use Rattle.layouts.specs.Pieces.{numOf, textOf, chunkOf, run, skipOf}
+use Rattle.layouts.specs.Record.{noted, entered, recordOf}
+use Rattle.layouts.specs.Judge.{notText, textTaken, halfTaken, chunkTaken, judgeOf}
+use Rattle.layouts.specs.Operations.{kindOf, operations, find}
+use Rattle.layouts.specs.Calls.{argumentsTree, skippedTree, replyTree, readOpArgs, skipOpArgs, skipDaemonResult}
+use Rattle.layouts.specs.Stderr.{messageOf, stderrFrom, stderrLoop, readStderrLoop}
+use Rattle.layouts.specs.Handshake.{hear, judgeHeard, daemonInfo, greeting, handshake, parseHandshake}
+use Rattle.layouts.specs.Examples.{Example, examples, pitfalls}
+
+pub hold : map (λ (e : Example). e .computed) examples ≡ map (λ (e : Example). e .stated) examples
+unfolding examples isText goodPrefix first charLength longer low high numberAt numberBytes padOf atLeast layout numOf textOf chunkOf run skipOf noted entered notText textTaken halfTaken chunkTaken judgeOf kindOf operations find argumentsTree skippedTree readOpArgs skipOpArgs messageOf stderrFrom stderrLoop readStderrLoop
+hold = refl
+
+pub avoided : map (λ (e : Example). e .computed) pitfalls ≡ map (λ (e : Example). e .stated) pitfalls
+unfolding pitfalls isText goodPrefix first charLength longer low high numberAt numberBytes padOf atLeast layout numOf textOf chunkOf run skipOf noted entered recordOf notText textTaken halfTaken chunkTaken judgeOf kindOf operations find skippedTree replyTree skipOpArgs skipDaemonResult hear judgeHeard daemonInfo greeting handshake parseHandshake
+avoided = refl

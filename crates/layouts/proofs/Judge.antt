@@ -1,0 +1,184 @@
+-- Reading against skipping: with room for all, reading ends where skipping does or at the first bad text; an answer tells where skipping ends and what the
+-- pieces hold; where skipping refuses, reading refuses no later. And how much is kept.
+use Prim.Native.Nat.{ℕ, _+_, _-_, _*_, _≤_, _<_}
+use mathlib.Core.Path.{_≡_, refl, sym, _∙_, ap}
+use mathlib.Core.List.{List}
+use mathlib.Core.Bool.{Bool, true, false, _&&_}
+use lib.ListN.{length, length-append, length-take, length-drop}
+use lib.Dec.{leb}
+use borrow.Author.Tests.{leb-true, leb-false}
+use native.Mathlib.Omega.{arith}
+use Rattle.layouts.specs.declared.Record.{Record}
+use Rattle.layouts.specs.Primitive.{pick, cutShort, badText, noEntryRoom, noPayloadRoom, Result, ok, refused, onward}
+use Rattle.layouts.specs.Shape.{Slot, dropped, asNumber, asFlag, asCount, asPresence, Role}
+use Rattle.layouts.specs.Pieces.{Pieces, number, text, half, chunk, end, fault, skipOf, totalOf}
+use Rattle.layouts.specs.Record.{noted, isKept, entered, withPayload, recordOf}
+use Rattle.layouts.specs.Judge.{notText, textTaken, halfTaken, chunkTaken, Ended, judgeOf, entry, entriesOf, payloadOf}
+use Rattle.layouts.specs.Soft.{keptOf, orBad, unlessBad}
+use Rattle.layouts.proofs.Placed.{never-both, Placed, on-number, on-text, on-half, on-chunk, on-end, on-fault, refused-from}
+
+-- a number moves neither entries nor payload
+pub noted-room : (r : Record) (i : Slot) (x : ℕ) → (noted r i x .entries ≡ r .entries) × (noted r i x .payload ≡ r .payload)
+unfolding noted
+noted-room r dropped x = (refl, refl)
+noted-room r (asNumber i) x = (refl, refl)
+noted-room r (asFlag i) x = (refl, refl)
+noted-room r (asCount i) x = (refl, refl)
+noted-room r asPresence x = (refl, refl)
+
+pub entered-room : (r : Record) (m : Role) → (entered r m .entries ≡ r .entries + pick (isKept m) 1 0) × (entered r m .payload ≡ r .payload)
+unfolding entered
+entered-room r m = (by (isKept m), refl)
+  where
+    by : (b : Bool) → pick b (r .entries + 1) (r .entries) ≡ r .entries + pick b 1 0
+    by true = refl
+    by false = omega arith
+
+-- the record counts what is kept
+pub record-room : (r : Record) (p : Pieces) → (recordOf r p .entries ≡ r .entries + keptOf p) × (recordOf r p .payload ≡ r .payload + totalOf p)
+unfolding recordOf keptOf totalOf
+record-room r (number i place n p) = let a = noted-room r i n in let b = record-room (noted r i n) p in (omega arith, omega arith)
+record-room r (text m start len p) = let a = entered-room r m in let b = record-room (entered r m) p in (omega arith, omega arith)
+record-room r (half m start len) = (omega arith, omega arith)
+record-room r (chunk start len p) = let b = record-room (withPayload r (r .payload + len)) p in (b .0, omega arith)
+record-room r (end place) = (omega arith, omega arith)
+record-room r (fault which place) = (omega arith, omega arith)
+
+-- a string or a chunk that is read: its text is bad, there is no room, or it goes on with this record
+data Step (bad : Bool) (lacks fits : Type 0) (start : ℕ) (r : Record) : Result Record → Type 0 where
+  is-bad : bad ≡ true → Step bad lacks fits start r (refused badText start 0)
+  no-room : (which : ℕ) → lacks → Step bad lacks fits start r (refused which (start - 8) 0)
+  goes-on : bad ≡ false → fits → Step bad lacks fits start r (ok r)
+
+text-step : (s : List ℕ) (slots : ℕ) (r : Record) (m : Role) (start len : ℕ)
+    → Step (notText s m start len) (slots < r .entries + pick (isKept m) 1 0) (r .entries ≤ slots → r .entries + pick (isKept m) 1 0 ≤ slots) start (entered r m)
+    (textTaken s slots r m start len)
+unfolding textTaken
+text-step s slots r m start len = by (notText s m start len) (isKept m) (leb slots (r .entries)) refl refl
+  where
+    by : (b c d : Bool) → notText s m start len ≡ b → leb slots (r .entries) ≡ d
+        → Step (notText s m start len) (slots < r .entries + pick c 1 0) (r .entries ≤ slots → r .entries + pick c 1 0 ≤ slots) start (entered r m)
+        (pick b (refused badText start 0) (pick (c && d) (refused noEntryRoom (start - 8) 0) (ok (entered r m))))
+    by true c d e f = is-bad e
+    by false true true e f = no-room noEntryRoom (omega (arith, leb-true slots (r .entries) f))
+    by false true false e f = goes-on e (λ h. omega (arith, leb-false slots (r .entries) f))
+    by false false d e f = goes-on e (λ h. omega arith)
+
+chunk-step : (room : ℕ) (r : Record) (start len : ℕ)
+    → Step false (room < r .payload + len) (r .payload + len ≤ room) start (withPayload r (r .payload + len)) (chunkTaken room r start len)
+unfolding chunkTaken
+chunk-step room r start len = by (leb (r .payload + len) room) refl
+  where
+    by : (b : Bool) → leb (r .payload + len) room ≡ b
+        → Step false (room < r .payload + len) (r .payload + len ≤ room) start (withPayload r (r .payload + len))
+        (pick b (ok (withPayload r (r .payload + len))) (refused noPayloadRoom (start - 8) 0))
+    by true e = goes-on refl (leb-true (r .payload + len) room e)
+    by false e = no-room noPayloadRoom (leb-false (r .payload + len) room e)
+
+-- refused, at this place or an earlier one
+abbrev pub RefusedBy : {A : Type 0} → (place : ℕ) → Result A → Type 0
+RefusedBy place o = (which : ℕ) × (earlier : ℕ) × (o ≡ refused which earlier 0) × (earlier ≤ place)
+
+-- what follows it: with room for all; in an answer; before a refusal
+module _ {bad : Bool} {lacks fits : Type 0} {start : ℕ} {r : Record} (k : Record → Result Ended) where
+  room-step : {o : Result Record} {u : Result Ended} → Step bad lacks fits start r o → (lacks → ⊥) → k r ≡ u → onward o k ≡ orBad bad start u
+  room-step (is-bad b) f e = rw b
+  room-step (no-room w l) f e = absurd (f l)
+  room-step (goes-on b g) f e = rw b e
+
+  ok-step : {o : Result Record} {x : Ended} → Step bad lacks fits start r o → onward o k ≡ ok x → (k r ≡ ok x) × fits
+  ok-step (is-bad b) e = absurd (never-both e)
+  ok-step (no-room w l) e = absurd (never-both e)
+  ok-step (goes-on b g) e = (e, g)
+
+  refused-step : {o : Result Record} (place : ℕ) → Step bad lacks fits start r o → start ≤ place → RefusedBy place (k r) → RefusedBy place (onward o k)
+  refused-step place (is-bad b) h e = (badText, start, refl, h)
+  refused-step place (no-room w l) h e = (w, start - 8, refl, omega arith)
+  refused-step place (goes-on b g) h e = e
+
+half-refused : (s : List ℕ) (m : Role) (start len : ℕ) → RefusedBy {A = Ended} (start + len) (halfTaken s m start len)
+unfolding halfTaken
+half-refused s m start len = by (notText s m start len)
+  where
+    by : (b : Bool) → RefusedBy {A = Ended} (start + len) (pick b (refused badText start 0) (refused cutShort (start + len) 0))
+    by true = (badText, start, refl, omega arith)
+    by false = (cutShort, start + len, refl, omega arith)
+
+-- an answer: where skipping ends, what the pieces make of the record, and that there was room
+pub record Read (slots room : ℕ) (r : Record) (p : Pieces) (x : Ended) : Type 0 where
+  pub skips : skipOf p ≡ ok (x .ends)
+  pub holds : x .found ≡ recordOf r p
+  pub fits : r .entries ≤ slots → r .payload ≤ room → (r .entries + keptOf p ≤ slots) × (r .payload + totalOf p ≤ room)
+
+module _ (s : List ℕ) (slots room : ℕ) where
+  pub judge-room : (r : Record) (p : Pieces) (e : ℕ) → skipOf p ≡ ok e → r .entries + keptOf p ≤ slots → r .payload + totalOf p ≤ room
+      → judgeOf s slots room r p ≡ unlessBad s p (ok (record { found = recordOf r p; ends = e }))
+  unfolding judgeOf unlessBad skipOf keptOf totalOf recordOf
+  judge-room r (number i place n p) e q h g = let a = noted-room r i n in judge-room (noted r i n) p e q (omega arith) (omega arith)
+  judge-room r (text m start len p) e q h g =
+      let a = entered-room r m in
+      room-step (λ r'. judgeOf s slots room r' p) (text-step s slots r m start len) (λ l. omega arith) (judge-room (entered r m) p e q (omega arith) (omega arith))
+  judge-room r (half m start len) e q h g = absurd (never-both q)
+  judge-room r (chunk start len p) e q h g =
+      room-step (λ r'. judgeOf s slots room r' p) (chunk-step room r start len) (λ l. omega arith) (judge-room (withPayload r (r .payload + len)) p e q h (omega arith))
+  judge-room r (end place) e q h g = let z : place ≡ e = cc in rw z
+  judge-room r (fault which place) e q h g = absurd (never-both q)
+
+  pub judge-read : (r : Record) (p : Pieces) (x : Ended) → judgeOf s slots room r p ≡ ok x → Read slots room r p x
+  unfolding judgeOf skipOf keptOf totalOf recordOf
+  judge-read r (number i place n p) x e =
+      let a = noted-room r i n in
+      let z = judge-read (noted r i n) p x e in
+      record { skips = z .skips; holds = z .holds; fits = λ h g. let y = z .fits (omega arith) (omega arith) in (omega arith, omega arith) }
+  judge-read r (text m start len p) x e =
+      let a = entered-room r m in
+      let t = ok-step (λ r'. judgeOf s slots room r' p) (text-step s slots r m start len) e in
+      let z = judge-read (entered r m) p x (t .0) in
+      record { skips = z .skips; holds = z .holds; fits = λ h g. let f = t .1 h in let y = z .fits (omega arith) (omega arith) in (omega arith, omega arith) }
+  judge-read r (half m start len) x e = absurd (never-both (sym (half-refused s m start len .2) ∙ e))
+  judge-read r (chunk start len p) x e =
+      let t = ok-step (λ r'. judgeOf s slots room r' p) (chunk-step room r start len) e in
+      let z = judge-read (withPayload r (r .payload + len)) p x (t .0) in
+      record { skips = z .skips; holds = z .holds; fits = λ h g. let y = z .fits h (t .1) in (y .0, omega arith) }
+  judge-read r (end place) x e =
+      let z : record { found = r; ends = place } ≡ x = cc in
+      record { skips = ap (λ y. ok (y .ends)) z; holds = sym (ap (λ y. y .found) z); fits = λ h g. (omega arith, omega arith) }
+  judge-read r (fault which place) x e = absurd (never-both e)
+
+  -- where skipping refuses, reading refuses too, and no later
+  pub judge-refused : {G : Type 0} {hi lo which place : ℕ} {p : Pieces} (r : Record) → G → Placed G hi lo p → skipOf p ≡ refused which place 0
+      → RefusedBy place (judgeOf s slots room r p)
+  unfolding judgeOf skipOf
+  judge-refused r g (on-number {n} {i} lo x a b h) q = judge-refused (noted r i n) g h q
+  judge-refused {place} r g (on-text {m} {p} lo start len a b h) q =
+      let z = refused-from g h q in
+      refused-step (λ r'. judgeOf s slots room r' p) place (text-step s slots r m start len) (omega arith) (judge-refused (entered r m) g h q)
+  judge-refused {place} r g (on-half {m} lo start len a b) q = let z : start + len ≡ place = cc in rw (← z) (half-refused s m start len)
+  judge-refused {place} r g (on-chunk {p} lo start len a b h) q =
+      let z = refused-from g h q in
+      refused-step (λ r'. judgeOf s slots room r' p) place (chunk-step room r start len) (omega arith) (judge-refused (withPayload r (r .payload + len)) g h q)
+  judge-refused r g (on-end lo x a b) q = absurd (never-both (sym q))
+  judge-refused {which} {place} r g (on-fault lo x a) q = (which, place, cc, omega arith)
+
+-- how much is kept
+pub entries-length : (p : Pieces) → 2 * keptOf p ≡ length (entriesOf p)
+unfolding entriesOf keptOf
+entries-length (number i place n p) = entries-length p
+entries-length (text m start len p) = by (isKept m) (entries-length p)
+  where
+    by : (b : Bool) → 2 * keptOf p ≡ length (entriesOf p) → 2 * (pick b 1 0 + keptOf p) ≡ length (entry b start len (entriesOf p))
+    by true h = omega arith
+    by false h = omega arith
+entries-length (half m start len) = refl
+entries-length (chunk start len p) = entries-length p
+entries-length (end place) = refl
+entries-length (fault which place) = refl
+
+pub payload-length : {G : Type 0} {lo : ℕ} {p : Pieces} (s : List ℕ) → Placed G (length s) lo p → length (payloadOf s p) ≡ totalOf p
+unfolding payloadOf totalOf
+payload-length s (on-number lo x a b h) = payload-length s h
+payload-length s (on-text lo start len a b h) = payload-length s h
+payload-length s (on-half lo start len a b) = refl
+payload-length s (on-chunk lo start len a b h) = simp (length-append, length-take, length-drop, payload-length s h) (omega arith)
+payload-length s (on-end lo x a b) = refl
+payload-length s (on-fault lo x a) = refl

@@ -1,0 +1,16 @@
+-- Theorems about the definitions of `specs/`. `Exact`, `RoundTrip`, `Theorems`, `Calls`, `Talk` and `Examples` hold what docs/PROOFS.md cites; the others serve them
+-- and the crates above.
+pub mod Little
+pub mod Views
+pub mod Steps
+pub mod Exact
+pub mod Placed
+pub mod Trees
+pub mod Soft
+pub mod Judge
+pub mod Theorems
+pub mod Calls
+pub mod RoundTrip
+pub mod Stderr
+pub mod Talk
+pub mod Examples

@@ -1,0 +1,251 @@
+-- Handshakes: numbers alone decide what is heard on both streams.
+use Prim.Native.Nat.{ℕ, _+_, _≤_, _<_}
+use mathlib.Core.Path.{_≡_, refl, _∙_, ap}
+use mathlib.Core.List.{List, []}
+use mathlib.Core.Bool.{Bool, true, false, _||_}
+use lib.ListN.{length, getD}
+use lib.Dec.{eqb}
+use native.Mathlib.Omega.{arith}
+use native.Mathlib.Nat.{zero-add}
+use Rattle.layouts.specs.declared.Record.{Record}
+use Rattle.layouts.specs.Primitive.{pick, Version, version, fromWire, Result, ok, refused, onward}
+use Rattle.layouts.specs.Shape.{Tree}
+use Rattle.layouts.specs.Pieces.{Pieces, number, text, half, chunk, end, fault, run, skipOf, totalOf}
+use Rattle.layouts.specs.Record.{blank, recordOf}
+use Rattle.layouts.specs.Judge.{notText, Ended}
+use Rattle.layouts.specs.Handshake.{Talk, turn, lost, over, Heard, heard, failed, ended, ifEnds, hear, Both, onStream, judgeHeard, clientMagic, daemonMagic, numberIn, fieldsAt, hello, featureFields, obsoleteFields, infoFields, daemonInfo, daemonGreeting, greeting, handshake, daemonHandshake, handshakeAnswer, parseHandshake, parseDaemonHandshake}
+use Rattle.layouts.specs.Stderr.{Last}
+use Rattle.layouts.specs.Soft.{soft, softHeard, SoftenedOn, orBad, unlessBad, skipHeard, recordHeard, keptHeard, orOn, unlessHeard}
+use Rattle.layouts.proofs.Trees.{no-payload}
+use Rattle.layouts.proofs.Placed.{never-both, run-placed, ends, soft-low, soft-high}
+use Rattle.layouts.proofs.Soft.{Before, soft-run-at}
+use Rattle.layouts.proofs.Judge.{record-room, judge-room}
+
+neither : (a b : Bool) → a ≡ false → b ≡ false → a || b ≡ false
+neither true b e f = e
+neither false b e f = f
+
+-- of what follows a turn
+rest-soft : (d c : Bool) (x : ℕ) (o : Result ℕ) (k : ℕ → Heard) → ((e : ℕ) → o ≡ ok e → softHeard d (k e) x ≡ false) → softHeard d (ifEnds c o k) x ≡ false
+unfolding softHeard
+rest-soft d c x (ok e) k f = f e refl
+rest-soft d c x (refused which place stream) k f = refl
+
+rest-at : (d c : Bool) (x : ℕ) (o : Result ℕ) (k : ℕ → Heard) (e : ℕ) → o ≡ ok e → softHeard d (k e) x ≡ false → softHeard d (ifEnds c o k) x ≡ false
+rest-at d c x o k e z q = ap (λ (w : Result ℕ). softHeard d (ifEnds c w k) x) z ∙ q
+
+-- nothing before the places is soft
+module _ (s u : List ℕ) (y : ℕ) where
+  heard-low : (d : Bool) (x : Talk) (a b : ℕ) (r : Record) → a ≤ length s → b ≤ length u → y < pick d b a → softHeard d (hear x s u a b r) y ≡ false
+  unfolding hear softHeard
+  heard-low false (turn false t k) a b r h g l =
+      let p = run-placed t s a h in
+      neither (soft (run t s a) y) _ (soft-low y p (omega arith))
+      (rest-soft false false y (skipOf (run t s a)) _
+      (λ e q. let z = ends e p q in heard-low false (k (recordOf r (run t s a)) e) e b (recordOf r (run t s a)) (z .1) g (omega arith)))
+  heard-low false (turn true t k) a b r h g l =
+      rest-soft false true y (skipOf (run t u b)) _
+      (λ e q. heard-low false (k (recordOf r (run t u b)) e) a e (recordOf r (run t u b)) h (ends e (run-placed t u b g) q .1) l)
+  heard-low true (turn true t k) a b r h g l =
+      let p = run-placed t u b g in
+      neither (soft (run t u b) y) _ (soft-low y p (omega arith))
+      (rest-soft true true y (skipOf (run t u b)) _
+      (λ e q. let z = ends e p q in heard-low true (k (recordOf r (run t u b)) e) a e (recordOf r (run t u b)) h (z .1) (omega arith)))
+  heard-low true (turn false t k) a b r h g l =
+      rest-soft true false y (skipOf (run t s a)) _
+      (λ e q. heard-low true (k (recordOf r (run t s a)) e) e b (recordOf r (run t s a)) (ends e (run-placed t s a h) q .1) g l)
+  heard-low false (lost which place stream) a b r h g l = refl
+  heard-low true (lost which place stream) a b r h g l = refl
+  heard-low false over a b r h g l = refl
+  heard-low true over a b r h g l = refl
+
+-- s' agrees with s from a place on, wherever no byte is soft on that side
+abbrev Agree : (d : Bool) (h : Heard) (s s' : List ℕ) (a : ℕ) → Type 0
+Agree d h s s' a = (y : ℕ) → a ≤ y → y < length s → softHeard d h y ≡ false → getD s' y 0 ≡ getD s y 0
+
+-- one turn: its pieces are the same, where later turns have soft bytes only after its end
+same-turn : (d : Bool) (t : Tree) (s s' : List ℕ) (a : ℕ) (h : Heard) → a ≤ length s → length s' ≡ length s
+    → ((y : ℕ) → Before (run t s a) y → softHeard d h y ≡ false)
+    → ((y : ℕ) → a ≤ y → y < length s → soft (run t s a) y || softHeard d h y ≡ false → getD s' y 0 ≡ getD s y 0)
+    → run t s' a ≡ run t s a
+same-turn d t s s' a h l same low agree =
+    soft-run-at t s s' a l same (λ y g m b q. agree y g m (neither (soft (run t s a) y) (softHeard d h y) q (low y b)))
+
+-- what follows a turn is the same, where it is the same after every end
+same-rest : (c : Bool) (o : Result ℕ) (k k' : ℕ → Heard) → ((e : ℕ) → o ≡ ok e → k' e ≡ k e) → ifEnds c o k' ≡ ifEnds c o k
+same-rest c (ok e) k k' f = f e refl
+same-rest c (refused which place stream) k k' f = refl
+
+module _ (s s' u u' : List ℕ) (sizes : length s' ≡ length s) (sizeu : length u' ≡ length u) where
+  pub same-hear : (x : Talk) (a b : ℕ) (r : Record) → a ≤ length s → b ≤ length u
+      → Agree false (hear x s u a b r) s s' a → Agree true (hear x s u a b r) u u' b → hear x s' u' a b r ≡ hear x s u a b r
+  unfolding hear softHeard
+  same-hear (turn false t k) a b r h g f f' =
+      let p = run t s a in
+      let q = recordOf r p in
+      let w = run-placed t s a h in
+      let rest = ifEnds false (skipOf p) (λ e. hear (k q e) s u e b q) in
+      let same = same-turn false t s s' a rest h sizes
+      (λ y o. rest-soft false false y (skipOf p) _ (λ e z. heard-low s u y false (k q e) e b q (ends e w z .1) g (o e z))) f in
+      ap (λ (o : Pieces). heard false o (ifEnds false (skipOf o) (λ e. hear (k (recordOf r o) e) s' u' e b (recordOf r o)))) same
+      ∙ ap (heard false p)
+      (same-rest false (skipOf p) (λ e. hear (k q e) s u e b q) (λ e. hear (k q e) s' u' e b q)
+      (λ e z.
+      let v = ends e w z in
+      same-hear (k q e) e b q (v .1) g
+      (λ y l m o. f y (omega arith) m (neither (soft p y) _ (soft-high e y w z l) (rest-at false false y (skipOf p) _ e z o)))
+      (λ y l m o. f' y l m (rest-at true false y (skipOf p) _ e z o))))
+  same-hear (turn true t k) a b r h g f f' =
+      let p = run t u b in
+      let q = recordOf r p in
+      let w = run-placed t u b g in
+      let rest = ifEnds true (skipOf p) (λ e. hear (k q e) s u a e q) in
+      let same = same-turn true t u u' b rest g sizeu
+      (λ y o. rest-soft true true y (skipOf p) _ (λ e z. heard-low s u y true (k q e) a e q h (ends e w z .1) (o e z))) f' in
+      ap (λ (o : Pieces). heard true o (ifEnds true (skipOf o) (λ e. hear (k (recordOf r o) e) s' u' a e (recordOf r o)))) same
+      ∙ ap (heard true p)
+      (same-rest true (skipOf p) (λ e. hear (k q e) s u a e q) (λ e. hear (k q e) s' u' a e q)
+      (λ e z.
+      let v = ends e w z in
+      same-hear (k q e) a e q h (v .1)
+      (λ y l m o. f y l m (rest-at false true y (skipOf p) _ e z o))
+      (λ y l m o. f' y (omega arith) m (neither (soft p y) _ (soft-high e y w z l) (rest-at true true y (skipOf p) _ e z o)))))
+  same-hear (lost which place stream) a b r h g f f' = refl
+  same-hear over a b r h g f f' = refl
+
+-- both handshakes start at 0
+pub soft-hear : (x : Talk) (r : Record) (s s' u u' : List ℕ) → SoftenedOn false (hear x s u 0 0 r) s s' → SoftenedOn true (hear x s u 0 0 r) u u'
+    → hear x s' u' 0 0 r ≡ hear x s u 0 0 r
+soft-hear x r s s' u u' f f' =
+    same-hear s s' u u' (f .size) (f' .size) x 0 0 r (omega arith) (omega arith) (λ y l m o. f .hard y m o) (λ y l m o. f' .hard y m o)
+
+-- ---- reading, with room
+or-on : {A : Type 0} (d b : Bool) (start : ℕ) (o : Result Ended) (k : Ended → Result A) (v : Result (Unit {0})) (a : Result A)
+    → onward (onStream d o) k ≡ orOn d v a → onward (onStream d (orBad b start o)) k ≡ orOn d (orBad b start v) a
+or-on d true start o k v a e = refl
+or-on d false start o k v a e = e
+
+unless-on : {A : Type 0} (d : Bool) (s : List ℕ) (p : Pieces) (x : Ended) (k : Ended → Result A)
+    → onward (onStream d (unlessBad s p (ok x))) k ≡ orOn d (unlessBad s p (ok tt)) (k x)
+unfolding unlessBad
+unless-on d s (number i place n p) x k = unless-on d s p x k
+unless-on d s (text m start len p) x k = or-on d (notText s m start len) start (unlessBad s p (ok x)) k (unlessBad s p (ok tt)) (k x) (unless-on d s p x k)
+unless-on d s (half m start len) x k = or-on d (notText s m start len) start (ok x) k (ok tt) (k x) refl
+unless-on d s (chunk start len p) x k = unless-on d s p x k
+unless-on d s (end place) x k = refl
+unless-on d s (fault which place) x k = refl
+
+-- a turn that is passed to its end
+turn-passed : (d : Bool) (o : Result ℕ) (h : Result Both) (x : Both) → onward (onStream d o) (λ e. h) ≡ ok x → (e : ℕ) × (o ≡ ok e) × (h ≡ ok x)
+turn-passed d (ok e) h x q = (e, refl, q)
+turn-passed d (refused which place stream) h x q = absurd (never-both q)
+
+unfoldable pub totalHeard : Heard → ℕ
+totalHeard (heard d p h) = totalOf p + totalHeard h
+totalHeard (failed which place stream) = 0
+totalHeard (ended a b) = 0
+
+-- the places of both ends, with another record
+abbrev pub withFound : Record → Both → Both
+withFound r x = record { found = r; clientEnds = x .clientEnds; daemonEnds = x .daemonEnds }
+
+pub heard-room : (s u : List ℕ) (slots : ℕ) (r : Record) (h : Heard) (x : Both) → skipHeard h ≡ ok x → r .entries + keptHeard h ≤ slots
+    → r .payload + totalHeard h ≤ 0 → judgeHeard s u slots r h ≡ unlessHeard s u h (ok (withFound (recordHeard r h) x))
+unfolding judgeHeard skipHeard keptHeard totalHeard recordHeard unlessHeard
+heard-room s u slots r (heard d p h) x q l m =
+    let z = turn-passed d (skipOf p) (skipHeard h) x q in
+    let a = record-room r p in
+    let j = judge-room (pick d u s) slots 0 r p (z .0) (z .1) (omega arith) (omega arith) in
+    ap (λ (o : Result Ended). onward (onStream d o) (λ e. judgeHeard s u slots (e .found) h)) j
+    ∙ unless-on d (pick d u s) p (record { found = recordOf r p; ends = z .0 }) (λ e. judgeHeard s u slots (e .found) h)
+    ∙ ap (orOn d (unlessBad (pick d u s) p (ok tt))) (heard-room s u slots (recordOf r p) h x (z .2) (omega arith) (omega arith))
+heard-room s u slots r (failed which place stream) x q l m = absurd (never-both q)
+heard-room s u slots r (ended a b) x q l m =
+    let z : record { found = blank; clientEnds = a; daemonEnds = b } ≡ x = cc in ap (λ (y : Both). ok (withFound r y)) z
+
+-- ---- no turn of a handshake has a payload
+data NoPayload : Talk → Type 0 where
+  at-turn : {d : Bool} {t : Tree} {k : Record → ℕ → Talk} → ((s : List ℕ) (at : ℕ) → totalOf (run t s at) ≡ 0) → ((r : Record) (e : ℕ) → NoPayload (k r e))
+      → NoPayload (turn d t k)
+  at-lost : {which place stream : ℕ} → NoPayload (lost which place stream)
+  at-over : NoPayload over
+
+either : (b : Bool) {x y : Talk} → NoPayload x → NoPayload y → NoPayload (pick b x y)
+either true f g = f
+either false f g = g
+
+rest-payload : (c : Bool) (o : Result ℕ) (k : ℕ → Heard) → ((e : ℕ) → totalHeard (k e) ≡ 0) → totalHeard (ifEnds c o k) ≡ 0
+unfolding totalHeard
+rest-payload c (ok e) k f = f e
+rest-payload c (refused which place stream) k f = refl
+
+hear-payload : {x : Talk} → NoPayload x → (s u : List ℕ) (a b : ℕ) (r : Record) → totalHeard (hear x s u a b r) ≡ 0
+unfolding hear totalHeard
+hear-payload (at-turn {d = false} {t} {k} f g) s u a b r =
+    let q = recordOf r (run t s a) in
+    simp (f s a, zero-add) (rest-payload false (skipOf (run t s a)) (λ e. hear (k q e) s u e b q) (λ e. hear-payload (g q e) s u e b q))
+hear-payload (at-turn {d = true} {t} {k} f g) s u a b r =
+    let q = recordOf r (run t u b) in
+    simp (f u b, zero-add) (rest-payload true (skipOf (run t u b)) (λ e. hear (k q e) s u a e q) (λ e. hear-payload (g q e) s u a e q))
+hear-payload at-lost s u a b r = refl
+hear-payload at-over s u a b r = refl
+
+info-payload : (v : Version) → NoPayload (daemonInfo v)
+unfolding daemonInfo
+info-payload v = at-turn (no-payload v infoFields (tt, (tt, (tt, tt)))) (λ r e. either (eqb (numberIn r 5) Last) at-over at-lost)
+
+hello-payload : (i j : ℕ) (s : List ℕ) (at : ℕ) → totalOf (run (hello i j) s at) ≡ 0
+hello-payload i j = no-payload (version 0 0) _ (tt, (tt, tt))
+
+features-payload : (v : Version) (i : ℕ) (s : List ℕ) (at : ℕ) → totalOf (run (fieldsAt v (featureFields i)) s at) ≡ 0
+features-payload v i = no-payload v (featureFields i) (tt, tt)
+
+handshake-payload : NoPayload handshake
+unfolding handshake greeting
+handshake-payload =
+    at-turn (hello-payload 0 1) λ r e.
+    at-turn (hello-payload 2 3) λ r e.
+    either (eqb (numberIn r 0) clientMagic)
+    (either (eqb (numberIn r 2) daemonMagic)
+    (at-turn (features-payload _ 0) λ r e.
+    at-turn (features-payload _ 1) λ r e.
+    at-turn (no-payload _ obsoleteFields (tt, (tt, tt))) λ r e. info-payload _)
+    at-lost)
+    at-lost
+
+daemon-payload : (c : Version) → NoPayload (daemonHandshake c)
+unfolding daemonHandshake daemonGreeting
+daemon-payload c =
+    at-turn (hello-payload 2 3) λ r e.
+    either (eqb (numberIn r 2) daemonMagic) (at-turn (features-payload _ 1) λ r e. info-payload _) at-lost
+
+-- ---- demand 3 for both handshakes: where both streams are passed to the end, and with room for all entries, streams that differ in soft bytes only are read
+-- the same, unless a decoded string is not text: then 3 at the first such one, on its stream
+module _ (x : Talk) (f : NoPayload x) (s s' u u' : List ℕ) (a : SoftenedOn false (hear x s u 0 0 blank) s s') (b : SoftenedOn true (hear x s u 0 0 blank) u u')
+    (slots : ℕ) (e : Both) (q : skipHeard (hear x s u 0 0 blank) ≡ ok e) (l : keptHeard (hear x s u 0 0 blank) ≤ slots) where
+  soft-judge : judgeHeard s' u' slots blank (hear x s' u' 0 0 blank)
+      ≡ unlessHeard s' u' (hear x s u 0 0 blank) (ok (withFound (recordHeard blank (hear x s u 0 0 blank)) e))
+  soft-judge =
+      let z = hear-payload f s u 0 0 blank in
+      ap (judgeHeard s' u' slots blank) (soft-hear x blank s s' u u' a b)
+      ∙ heard-room s' u' slots blank (hear x s u 0 0 blank) e q (omega arith) (omega arith)
+
+pub soft-handshake : (s s' u u' : List ℕ) → SoftenedOn false (hear handshake s u 0 0 blank) s s' → SoftenedOn true (hear handshake s u 0 0 blank) u u'
+    → (slots : ℕ) (e : Both) → skipHeard (hear handshake s u 0 0 blank) ≡ ok e → keptHeard (hear handshake s u 0 0 blank) ≤ slots
+    → parseHandshake s' u' slots
+    ≡ onward (unlessHeard s' u' (hear handshake s u 0 0 blank) (ok (withFound (recordHeard blank (hear handshake s u 0 0 blank)) e)))
+    (λ x. handshakeAnswer (fromWire (numberIn (x .found) 1)) x)
+unfolding parseHandshake
+soft-handshake s s' u u' a b slots e q l =
+    ap (λ (o : Result Both). onward o (λ x. handshakeAnswer (fromWire (numberIn (x .found) 1)) x))
+    (soft-judge handshake handshake-payload s s' u u' a b slots e q l)
+
+pub soft-daemon-handshake : (c : Version) (u u' : List ℕ) → SoftenedOn true (hear (daemonHandshake c) [] u 0 0 blank) u u'
+    → (slots : ℕ) (e : Both) → skipHeard (hear (daemonHandshake c) [] u 0 0 blank) ≡ ok e → keptHeard (hear (daemonHandshake c) [] u 0 0 blank) ≤ slots
+    → parseDaemonHandshake c u' slots
+    ≡ onward (unlessHeard [] u' (hear (daemonHandshake c) [] u 0 0 blank) (ok (withFound (recordHeard blank (hear (daemonHandshake c) [] u 0 0 blank)) e)))
+    (handshakeAnswer c)
+unfolding parseDaemonHandshake
+soft-daemon-handshake c u u' b slots e q l =
+    ap (λ (o : Result Both). onward o (handshakeAnswer c))
+    (soft-judge (daemonHandshake c) (daemon-payload c) [] [] u u' (record { size = refl; hard = λ x h o. refl }) b slots e q l)

@@ -1,0 +1,92 @@
+-- The worked examples P1 to P12 of document 01: one table. And a second one, of the errors that 01 calls easy and of the order of judging.
+use Prim.Native.Nat.{ℕ}
+use mathlib.Core.List.{List, [], _∷_, _++_}
+use mathlib.Core.Bool.{Bool}
+use lib.ListN.{replicate, getD}
+use Rattle.layouts.specs.Primitive.{pick, numberBytes, version, fromWire, atLeast, Version, Result, ok, refused}
+use Rattle.layouts.specs.Judge.{Ended}
+use Rattle.layouts.specs.Calls.{Answer, readOpArgs, skipOpArgs, skipDaemonResult, skipString, readString, readStringSet, readFramed}
+use Rattle.layouts.specs.Stderr.{Next, Last, readStderrLoop}
+use Rattle.layouts.specs.Handshake.{parseHandshake}
+
+-- what is seen of an answer: 0 and the end; or the refusal's number and place
+abbrev pub seen : Result Ended → List ℕ
+seen (ok e) = 0 ∷ e .ends ∷ []
+seen (refused which place stream) = which ∷ place ∷ []
+
+abbrev pub skip : Result ℕ → List ℕ
+skip (ok e) = 0 ∷ e ∷ []
+skip (refused which place stream) = which ∷ place ∷ []
+
+-- kind, end, and the first two numbers
+abbrev pub told : Result Answer → List ℕ
+told (ok a) = a .kind ∷ a .ends ∷ getD (a .found .numbers) 0 0 ∷ getD (a .found .numbers) 1 0 ∷ []
+told (refused which place stream) = which ∷ place ∷ stream ∷ []
+
+abbrev pub pair : Version → List ℕ
+pair v = v .major ∷ v .minor ∷ []
+
+abbrev pub yes? : Bool → List ℕ
+yes? b = pick b 1 0 ∷ []
+
+pub record Example : Type 0 where
+  pub computed : List ℕ
+  pub stated : List ℕ
+
+abbrev pub ex : (computed stated : List ℕ) → Example
+ex c s = record { computed = c; stated = s }
+
+abbrev pub N# : ℕ → List ℕ
+N# x = numberBytes x
+
+unfoldable pub examples : List Example
+examples =
+    -- P1 length 4, bin7, four bytes FF: string, end 16
+    ex (seen (readString (N# 4 ++ (0x62 ∷ 0x69 ∷ 0x6e ∷ 0x37 ∷ []) ++ replicate 4 0xFF) 0)) (0 ∷ 16 ∷ []) ∷
+    -- P2 length 0: end 8
+    ex (seen (readString (N# 0) 0)) (0 ∷ 8 ∷ []) ∷
+    -- P3 length 268435457 and nothing more: 2 at 0
+    ex (seen (readString (N# 268435457) 0)) (2 ∷ 0 ∷ []) ∷
+    -- P4 268435456 and nothing more: 1 at 8
+    ex (seen (readString (N# 268435456) 0)) (1 ∷ 8 ∷ []) ∷
+    -- P5 seven bytes: 1 at 0
+    ex (seen (readString (replicate 7 0) 0)) (1 ∷ 0 ∷ []) ∷
+    -- P6 length 1, FF, seven zeros: skip ends 16, read 3 at 8
+    ex (skip (skipString (N# 1 ++ (0xFF ∷ replicate 7 0)) 0) ++ seen (readString (N# 1 ++ (0xFF ∷ replicate 7 0)) 0)) (0 ∷ 16 ∷ 3 ∷ 8 ∷ []) ∷
+    -- P7 wire 0x126 is 1.38; 0x12345 is 35.69
+    ex (pair (fromWire 0x126) ++ pair (fromWire 0x12345)) (1 ∷ 38 ∷ 35 ∷ 69 ∷ []) ∷
+    -- P8 stderr on five bytes: count 0, none, end 0
+    ex (told (readStderrLoop (replicate 5 0))) (0 ∷ 0 ∷ 0 ∷ 0 ∷ []) ∷
+    -- P9 Next, empty string, Last: count 2, Last, end 24
+    ex (told (readStderrLoop (N# Next ++ N# 0 ++ N# Last))) (0 ∷ 24 ∷ 2 ∷ Last ∷ []) ∷
+    -- P10 framed 2, ab, 0: end 18; room 1: 5 at 0
+    ex (seen (readFramed (N# 2 ++ (0x61 ∷ 0x62 ∷ []) ++ N# 0) 0 2) ++ seen (readFramed (N# 2 ++ (0x61 ∷ 0x62 ∷ []) ++ N# 0) 0 1)) (0 ∷ 18 ∷ 5 ∷ 0 ∷ []) ∷
+    -- P11 AddToStore arguments at 1.24: read none, end 0; skip of two empty strings around two numbers ends 32
+    ex (told (readOpArgs 7 (version 1 24) [] 0 0) ++ told (skipOpArgs 7 (version 1 24) (N# 0 ++ N# 1 ++ N# 1 ++ N# 0))) (0 ∷ 0 ∷ 0 ∷ 0 ∷ 2 ∷ 32 ∷ 0 ∷ 0 ∷ []) ∷
+    -- P12 set count 2^64 - 1 alone: 1 at 8
+    ex (seen (readStringSet (replicate 8 0xFF) 0 0)) (1 ∷ 8 ∷ []) ∷
+    []
+
+unfoldable pub pitfalls : List Example
+pitfalls =
+    -- the client's magic is wrong, and the daemon's numbers are cut short: 1 at 8 of the daemon's stream, not 6
+    ex (told (parseHandshake (N# 0 ++ N# 0) (N# 0) 0)) (1 ∷ 8 ∷ 1 ∷ []) ∷
+    -- both magics are wrong: 6; the daemon's alone: 7
+    ex (told (parseHandshake (N# 0 ++ N# 0) (N# 0 ++ N# 0) 0)) (6 ∷ 0 ∷ 0 ∷ []) ∷
+    ex (told (parseHandshake (N# 0x6e697863 ++ N# 0x10a) (N# 0 ++ N# 0x126) 0)) (7 ∷ 0 ∷ 1 ∷ []) ∷
+    -- 2.0 is above 1.38, 0.255 below 1.10
+    ex (yes? (atLeast (version 2 0) (version 1 38)) ++ yes? (atLeast (version 0 255) (version 1 10))) (1 ∷ 0 ∷ []) ∷
+    -- a build result at 1.29: N, empty s, four numbers 5, no map
+    ex (skip (skipDaemonResult 36 (version 1 29) (N# 0 ++ N# 0 ++ N# 5 ++ N# 5 ++ N# 5 ++ N# 5 ++ N# 0))) (0 ∷ 56 ∷ []) ∷
+    -- skipped arguments check the string that they answer: the first of 37, and not the set
+    ex (told (skipOpArgs 37 (version 1 34) (N# 1 ++ (0xFF ∷ replicate 7 0) ++ N# 0))) (3 ∷ 8 ∷ 0 ∷ []) ∷
+    ex (told (skipOpArgs 37 (version 1 34) (N# 0 ++ N# 1 ++ N# 1 ++ (0xFF ∷ replicate 7 0)))) (2 ∷ 32 ∷ 0 ∷ 0 ∷ []) ∷
+    -- text before room; text before padding; room after padding
+    ex (seen (readStringSet (N# 1 ++ N# 1 ++ (0xFF ∷ replicate 7 0)) 0 0)) (3 ∷ 16 ∷ []) ∷
+    ex (seen (readStringSet (N# 1 ++ N# 1 ++ (0xFF ∷ [])) 0 0)) (3 ∷ 16 ∷ []) ∷
+    ex (seen (readStringSet (N# 1 ++ N# 1 ++ (0x61 ∷ [])) 0 0)) (1 ∷ 17 ∷ []) ∷
+    ex (seen (readStringSet (N# 1 ++ N# 1 ++ (0x61 ∷ replicate 7 0)) 0 0)) (4 ∷ 8 ∷ []) ∷
+    -- a handshake at 1.10 has no more than the daemon's last number, which must be Last: 8 at that number
+    ex (told (parseHandshake (N# 0x6e697863 ++ N# 0x10a) (N# 0x6478696f ++ N# 0x126 ++ N# Last) 0)) (0 ∷ 16 ∷ 1 ∷ 10 ∷ []) ∷
+    ex (told (parseHandshake (N# 0x6e697863 ++ N# 0x10a) (N# 0x6478696f ++ N# 0x126 ++ N# 0) 0)) (8 ∷ 16 ∷ 1 ∷ []) ∷
+    []
