@@ -93,6 +93,10 @@ past-by : (b c : Bool) → c ≡ false → pick b c false ≡ false
 past-by true c e = e
 past-by false c e = refl
 
+pub neither : (a b : Bool) → a ≡ false → b ≡ false → a || b ≡ false
+neither true b e f = e
+neither false b e f = f
+
 -- past a piece's last byte only what follows can be soft
 pub past-soft : (start next x : ℕ) {b : Bool} → next ≤ x → b ≡ false → within start next x || b ≡ false
 past-soft start next x h e = rw (past-by (leb start x) (ltb x next) (le-ltb x next h)) e

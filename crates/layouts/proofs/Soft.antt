@@ -80,7 +80,7 @@ module _ (size n at : ℕ) {G : ℕ → Type 0} where
       ap (chunk (at + 8) n) (f e h (λ x l b q. a x (omega arith) b (past-soft (at + 8) e x l q)))
 
 module _ (s s' : List ℕ) (same : length s' ≡ length s) where
-  abbrev Agrees : ℕ → Type 0
+  abbrev pub Agrees : ℕ → Type 0
   Agrees x = getD s' x 0 ≡ getD s x 0
 
   -- the number at the place where pieces begin
@@ -127,7 +127,7 @@ module _ (s s' : List ℕ) (same : length s' ≡ length s) where
   same-run stop at h a = refl
 
   -- past the end every stream reads 0
-  in-or-out : (x : ℕ) → Dec (x < length s) → (x < length s → Agrees x) → Agrees x
+  pub in-or-out : (x : ℕ) → Dec (x < length s) → (x < length s → Agrees x) → Agrees x
   in-or-out x (yes h) a = a h
   in-or-out x (no h) a = List·getD-eq-default s' 0 {n = x} (omega arith) ∙ sym (List·getD-eq-default s 0 {n = x} (omega arith))
 

@@ -17,13 +17,9 @@ use Rattle.layouts.specs.Handshake.{Talk, turn, lost, over, Heard, heard
 use Rattle.layouts.specs.Stderr.{Last}
 use Rattle.layouts.specs.Soft.{soft, softHeard, SoftenedOn, orBad, unlessBad, skipHeard, recordHeard, keptHeard, orOn, unlessHeard}
 use Rattle.layouts.proofs.Trees.{no-payload}
-use Rattle.layouts.proofs.Placed.{never-both, run-placed, ends, soft-low, soft-high}
+use Rattle.layouts.proofs.Placed.{never-both, run-placed, ends, soft-low, soft-high, neither}
 use Rattle.layouts.proofs.Soft.{Before, soft-run-at}
 use Rattle.layouts.proofs.Judge.{record-room, judge-room}
-
-neither : (a b : Bool) → a ≡ false → b ≡ false → a || b ≡ false
-neither true b e f = e
-neither false b e f = f
 
 -- of what follows a turn
 rest-soft : (d c : Bool) (x : ℕ) (o : Result ℕ) (k : ℕ → Heard) → ((e : ℕ) → o ≡ ok e → softHeard d (k e) x ≡ false) → softHeard d (ifEnds c o k) x ≡ false

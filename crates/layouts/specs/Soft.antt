@@ -1,15 +1,17 @@
 -- What demand 3 speaks of: the bytes that may change, and the first decoded string that is not text.
-use Prim.Native.Nat.{ℕ, _+_, _<_}
+use Prim.Native.Nat.{ℕ, zero, suc, _+_, _<_}
 use mathlib.Core.Path.{_≡_}
 use mathlib.Core.List.{List}
 use mathlib.Core.Bool.{Bool, true, false, _&&_, _||_}
 use lib.ListN.{length, getD}
 use lib.Dec.{ltb, leb}
 use Rattle.layouts.specs.declared.Record.{Record}
-use Rattle.layouts.specs.Primitive.{pick, padOf, badText, Result, ok, refused, onward}
-use Rattle.layouts.specs.Pieces.{Pieces, number, text, half, chunk, end, fault, skipOf}
+use Rattle.layouts.specs.Primitive.{pick, numberAt, padOf, version, badText, Result, ok, refused, onward}
+use Rattle.layouts.specs.Shape.{Group, layout}
+use Rattle.layouts.specs.Pieces.{Pieces, number, text, half, chunk, end, fault, run, skipOf}
 use Rattle.layouts.specs.Record.{blank, isKept, recordOf}
 use Rattle.layouts.specs.Judge.{notText}
+use Rattle.layouts.specs.Stderr.{Message, noCode, terminal, goes, messageOf}
 use Rattle.layouts.specs.Handshake.{Heard, heard, failed, ended, streamOf, onStream, Both}
 
 abbrev pub within : (start next x : ℕ) → Bool
@@ -93,3 +95,23 @@ unfoldable pub unlessHeard : {A : Type 0} → (s u : List ℕ) → Heard → Res
 unlessHeard s u (heard d p h) o = orOn d (unlessBad (pick d u s) p (ok tt)) (unlessHeard s u h o)
 unlessHeard s u (failed which place stream) o = o
 unlessHeard s u (ended a b) o = o
+
+-- ---- the same of the stderr loop: the soft bytes of its messages
+abbrev pub softAfter : Result ℕ → (ℕ → Bool) → Bool
+softAfter (ok e) again = again e
+softAfter (refused which place stream) again = false
+
+unfoldable pub softMessage : (whole : Bool) → Message → (List Group → Pieces) → (ℕ → Bool) → ℕ → Bool
+softMessage false m p again x = false
+softMessage true noCode p again x = false
+softMessage true terminal p again x = false
+softMessage true (goes gs) p again x = soft (p gs) x || softAfter (skipOf (p gs)) again
+
+unfoldable pub softFrom : ℕ → List ℕ → (at x : ℕ) → Bool
+softFrom zero s at x = false
+softFrom (suc f) s at x =
+    softMessage (leb (at + 8) (length s)) (messageOf (numberAt s at)) (λ gs. run (layout (version 0 0) gs) s (at + 8)) (λ e. softFrom f s e x) x
+
+pub record SoftenedStderr (s s' : List ℕ) : Type 0 where
+  pub size : length s' ≡ length s
+  pub hard : (x : ℕ) → x < length s → softFrom (suc (length s)) s 0 x ≡ false → getD s' x 0 ≡ getD s x 0
