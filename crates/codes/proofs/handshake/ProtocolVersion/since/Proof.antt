@@ -1,0 +1,12 @@
+use mathlib.Core.Path.{ap, _∙_}
+use borrow.Author.Needs.{needs}
+use Rattle.layouts.specs.Primitive.{atLeast}
+use Rattle.codes.specs.Handshake.{versionOf}
+use Rattle.codes.proofs.handshake.ProtocolVersion.since.Statement.{statement}
+use Rattle.codes.proofs.handshake.ProtocolVersion.since.Tie as tie
+
+returns : tie.Need-returns
+returns c = c .at-least .ensures ∙ ap (atLeast (versionOf (c .before .before .args .self))) (c .before .new .ensures)
+
+pub since-spec : {M : Type 1} → statement M
+since-spec = tie.close (tie.spec (λ c κs. search needs) (λ c κs. search needs) returns)

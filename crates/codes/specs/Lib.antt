@@ -1,0 +1,3 @@
+pub mod Handshake
+pub mod Stderr
+pub mod Ops

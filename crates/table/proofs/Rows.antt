@@ -1,0 +1,139 @@
+-- The search for a row, and what the row that is found says of its operation.
+use Prim.Native.Nat.{ℕ, suc, _+_, _≤_, _<_}
+use mathlib.Core.Path.{_≡_, refl, sym, _∙_, ap, subst}
+use mathlib.Core.Bool.{Bool, true, false}
+use mathlib.Core.List.{List, [], _∷_, map}
+use native.Mathlib.Omega.{arith}
+use native.Mathlib.Numerals.{add-one}
+use borrow.Author.Tests.{eq-eqb, ne-eqb, eqb-true}
+use mir.Val.{Fits}
+use mir.Syntax.{w64}
+use lib.Dec.{eqb}
+use lib.ListN.{length, getD, drop, drop-of-length-le}
+use lib.Seq.{drop-cons}
+use Rattle.layouts.specs.Primitive.{pick, Version, ok, refused}
+use Rattle.layouts.specs.Shape.{layout, fail}
+use Rattle.layouts.specs.Operations.{Kinds, only, byVersion, byFlag, kindOf, skipKind, skipped, Operation, Row, row, unknown, rowIf, operations}
+use Rattle.layouts.specs.Operations as O
+use Rattle.layouts.specs.Calls.{argumentsTree, skippedTree, replyTree, kindBy, hasFramed, opHasClientFramedData}
+use Rattle.table.specs.declared.Row as R
+use Rattle.table.specs.declared.Found.{Found}
+use Rattle.table.specs.declared.Found.the-variants as F
+use Rattle.table.specs.Packed.{rows}
+use Rattle.table.specs.Table.{Numbered, groupsAt, findIn, rowFor, numberedValue, kindNumbered}
+use Rattle.table.specs.Claims.{numbered, Said, said, wanted, rows-say}
+
+-- ---- the loop
+abbrev none : R.Row
+none = record { number = 0; arguments = 0; skipped = 0; reply = 0; «arguments_kind» = 0; «skipped_kind» = 0; «reply_kind» = 0 }
+
+module _ (rs : List R.Row) (op : ℕ) where
+  -- i rows are passed, and are others
+  pub record Passed (i : ℕ) : Type 0 where
+    pub within : i ≤ length rs
+    pub rest : findIn rs op ≡ findIn (drop i rs) op
+
+  pub passed-none : Passed 0
+  passed-none = record { within = omega arith; rest = refl }
+
+  step : (i : ℕ) → i < length rs → findIn (drop i rs) op ≡ pick (eqb (getD rs i none .number) op) (F.Row (getD rs i none)) (findIn (drop (suc i) rs) op)
+  unfolding findIn
+  step i h = rw (drop-cons rs i none h)
+
+  module _ (i : ℕ) (d : Passed i) (h : i < length rs) where
+    pub passed-more : (getD rs i none .number ≡ op → ⊥) → Passed (i + 1)
+    passed-more e = record { within = omega arith; rest = d .rest ∙ step i h ∙ simp (ne-eqb (getD rs i none .number) op e, add-one) }
+
+    pub passed-found : getD rs i none .number ≡ op → findIn rs op ≡ F.Row (getD rs i none)
+    passed-found e = d .rest ∙ step i h ∙ simp (eq-eqb (getD rs i none .number) op e)
+
+  pub passed-all : (i : ℕ) → Passed i → length rs ≤ i → findIn rs op ≡ F.Unknown
+  unfolding findIn
+  passed-all i d h = d .rest ∙ simp (drop-of-length-le rs {i = i} h)
+
+pub one-on : {i : ℕ} → i < 37 → Fits w64 (i + 1)
+one-on h = omega arith
+
+-- ---- both searches find the same
+abbrev Match : (op : ℕ) → Found → Row → Type 0
+Match op (F.Row r) (row o) = (said r ≡ wanted o) × (o .code ≡ op)
+Match op (F.Row r) unknown = ⊥
+Match op F.Unknown (row o) = ⊥
+Match op F.Unknown unknown = Unit {0}
+
+match-if : (op : ℕ) (r : R.Row) (o : Operation) (a b : Bool) (x : Found) (y : Row) → said r ≡ wanted o → a ≡ b → eqb (o .code) op ≡ b → Match op x y
+    → Match op (pick a (F.Row r) x) (rowIf b o y)
+match-if op r o true true x y e p q m = (e, eqb-true (o .code) op q)
+match-if op r o false false x y e p q m = m
+match-if op r o true false x y e p q m = let z : _≡_ {A = ℕ} 0 1 = cc in absurd (omega arith)
+match-if op r o false true x y e p q m = let z : _≡_ {A = ℕ} 0 1 = cc in absurd (omega arith)
+
+match-in : (op : ℕ) (rs : List R.Row) (os : List Operation) → map said rs ≡ map wanted os → Match op (findIn rs op) (O.findIn os op)
+unfolding findIn O.findIn
+match-in op [] [] e = tt
+match-in op [] (o ∷ os) e = let z : _≡_ {A = ℕ} 0 1 = cc in absurd (omega arith)
+match-in op (r ∷ rs) [] e = let z : _≡_ {A = ℕ} 0 1 = cc in absurd (omega arith)
+match-in op (r ∷ rs) (o ∷ os) e =
+    let h : said r ≡ wanted o = cc in
+    let t : map said rs ≡ map wanted os = cc in
+    match-if op r o (eqb (r .number) op) (eqb (o .code) op) (findIn rs op) (O.findIn os op) h (ap (λ (x : Said). eqb (x .code) op) h) refl (match-in op rs os t)
+
+match-found : (op : ℕ) → Match op (rowFor op) (O.find op)
+unfolding rowFor O.find
+match-found op = match-in op rows operations rows-say
+
+-- ---- what that says
+numbered-value : (v : Version) (b : Bool) (k : Kinds) → kindOf v b k ≡ numberedValue v b (numbered k)
+unfolding kindOf
+numbered-value v b (only k) = refl
+numbered-value v b (byVersion x k l) = rw (numbered-value v b k, numbered-value v b l)
+numbered-value v b (byFlag k l) = rw (numbered-value v b k, numbered-value v b l)
+
+pub record Says (op : ℕ) (r : R.Row) : Type 0 where
+  pub arguments : (v : Version) → argumentsTree op v ≡ layout v (groupsAt (r .arguments))
+  pub skips : (v : Version) → skippedTree op v ≡ layout v (groupsAt (r .skipped))
+  pub reply : (v : Version) → replyTree op v ≡ layout v (groupsAt (r .reply))
+  pub argumentsKind : (v : Version) (b : Bool) → kindOf v b (kindBy (O.find op) (λ o. o .argumentsKind)) ≡ kindNumbered v b (r .«arguments_kind»)
+  pub skippedKind : (v : Version) (b : Bool) → kindOf v b (kindBy (O.find op) (λ o. skipKind (o .skip))) ≡ kindNumbered v b (r .«skipped_kind»)
+  pub replyKind : (v : Version) (b : Bool) → kindOf v b (kindBy (O.find op) (λ o. o .replyKind)) ≡ kindNumbered v b (r .«reply_kind»)
+  pub sendsFrames : opHasClientFramedData op ≡ ok (hasFramed op)
+
+pub record Refuses (op : ℕ) : Type 0 where
+  pub arguments : (v : Version) → argumentsTree op v ≡ fail 9 0
+  pub skips : (v : Version) → skippedTree op v ≡ fail 9 0
+  pub reply : (v : Version) → replyTree op v ≡ fail 9 0
+  pub sendsFrames : opHasClientFramedData op ≡ refused 9 0 0
+
+module _ (op : ℕ) where
+  kind-by : (v : Version) (b : Bool) (o : Operation) (k : Operation → Kinds) (n : Numbered) → O.find op ≡ row o → n ≡ numbered (k o)
+      → kindOf v b (kindBy (O.find op) k) ≡ numberedValue v b n
+  kind-by v b o k n e q = rw (e, q) (numbered-value v b (k o))
+
+  says-by : (r : R.Row) (x : Row) → O.find op ≡ x → Match op (F.Row r) x → Says op r
+  unfolding argumentsTree skippedTree replyTree opHasClientFramedData
+  says-by r unknown e m = absurd m
+  says-by r (row o) e m =
+      record {
+        arguments = λ v. rw e (ap (λ (x : Said). layout v (x .arguments)) (sym (m .0)));
+        skips = λ v. rw (e, ← m .1) (ap (λ (x : Said). layout v (x .skips)) (sym (m .0)));
+        reply = λ v. rw e (ap (λ (x : Said). layout v (x .reply)) (sym (m .0)));
+        argumentsKind = λ v b. kind-by v b o (λ o. o .argumentsKind) _ e (ap (λ (x : Said). x .argumentsKind) (m .0));
+        skippedKind = λ v b. kind-by v b o (λ o. skipKind (o .skip)) _ e (ap (λ (x : Said). x .skippedKind) (m .0));
+        replyKind = λ v b. kind-by v b o (λ o. o .replyKind) _ e (ap (λ (x : Said). x .replyKind) (m .0));
+        sendsFrames = rw e;
+      }
+
+  refuses-by : (x : Row) → O.find op ≡ x → Match op F.Unknown x → Refuses op
+  unfolding argumentsTree skippedTree replyTree opHasClientFramedData
+  refuses-by (row o) e m = absurd m
+  refuses-by unknown e m = record { arguments = λ v. rw e; skips = λ v. rw e; reply = λ v. rw e; sendsFrames = rw e }
+
+  matched : (x y : Found) → x ≡ rowFor op → x ≡ y → Match op y (O.find op)
+  matched x y e q = subst (λ (z : Found). Match op z (O.find op)) (sym e ∙ q) (match-found op)
+
+  -- for a caller of `find` that has matched on its answer
+  pub found-says : (x : Found) (r : R.Row) → x ≡ rowFor op → x ≡ F.Row r → Says op r
+  found-says x r e q = says-by r (O.find op) refl (matched x (F.Row r) e q)
+
+  pub unknown-refuses : (x : Found) → x ≡ rowFor op → x ≡ F.Unknown → Refuses op
+  unknown-refuses x e q = refuses-by (O.find op) refl (matched x F.Unknown e q)

@@ -1,0 +1,93 @@
+-- The tables stand for the layouts of `layouts`: computed, row by row.
+use Prim.Native.Nat.{ℕ}
+use mathlib.Core.Path.{_≡_, refl}
+use mathlib.Core.List.{List, [], _∷_, _++_, map}
+use Rattle.layouts.specs.Primitive.{version}
+use Rattle.layouts.specs.Shape.{Group, once, layout}
+use Rattle.layouts.specs.Operations.{Kinds, only, byVersion, byFlag, kindNumber, skipKind, skipped, Operation, operations}
+use Rattle.layouts.specs.Calls.{older}
+use Rattle.layouts.specs.Stderr.{Next, Read, Write, StartActivity, StopActivity, Result#, goes, messageOf, errorBlock}
+use Rattle.layouts.specs.Handshake.{hello, featureFields, obsoleteFields, infoFields}
+use Rattle.table.specs.declared.Row.{Row}
+use Rattle.table.specs.Packed.{fieldTable, runTable, rows, stringMessage, numberMessage, startActivity, resultMessage, errorBlockRun, helloClient, helloDaemon, featuresClient, featuresDaemon, obsolete, info}
+use Rattle.table.specs.Table.{roleOf, slotOf, whatOf, itemOf, unlessEnd, consItem, items, itemsAt, groupOf, consRun, groupsIn, groupsAt, Numbered, just, numberedOf}
+use Rattle.table.specs.Table as T
+
+-- kinds by their numbers
+abbrev pub numbered : Kinds → Numbered
+numbered (only k) = just (kindNumber k)
+numbered (byVersion x k l) = T.byVersion x (numbered k) (numbered l)
+numbered (byFlag k l) = T.byFlag (numbered k) (numbered l)
+
+-- what a row has to say of an operation
+pub record Said : Type 0 where
+  pub code : ℕ
+  pub arguments : List Group
+  pub skips : List Group
+  pub reply : List Group
+  pub argumentsKind : Numbered
+  pub skippedKind : Numbered
+  pub replyKind : Numbered
+
+abbrev pub said : Row → Said
+said r =
+    record {
+      code = r .number;
+      arguments = groupsAt (r .arguments);
+      skips = groupsAt (r .skipped);
+      reply = groupsAt (r .reply);
+      argumentsKind = numberedOf (r .«arguments_kind»);
+      skippedKind = numberedOf (r .«skipped_kind»);
+      replyKind = numberedOf (r .«reply_kind»);
+    }
+
+abbrev pub wanted : Operation → Said
+wanted o =
+    record {
+      code = o .code;
+      arguments = once (o .arguments) ∷ [];
+      skips = once (older (o .code) ++ skipped (o .skip) (o .arguments)) ∷ [];
+      reply = o .reply;
+      argumentsKind = numbered (o .argumentsKind);
+      skippedKind = numbered (skipKind (o .skip));
+      replyKind = numbered (o .replyKind);
+    }
+
+pub rows-say : map said rows ≡ map wanted operations
+unfolding operations groupsAt groupsIn consRun groupOf itemsAt items consItem unlessEnd itemOf whatOf slotOf roleOf fieldTable runTable numberedOf
+rows-say = refl
+
+-- the other layouts
+pub record Others : Type 0 where
+  pub next : messageOf Next ≡ goes (groupsAt stringMessage)
+  pub write : messageOf Write ≡ goes (groupsAt stringMessage)
+  pub read : messageOf Read ≡ goes (groupsAt numberMessage)
+  pub stopped : messageOf StopActivity ≡ goes (groupsAt numberMessage)
+  pub started : messageOf StartActivity ≡ goes (groupsAt startActivity)
+  pub result : messageOf Result# ≡ goes (groupsAt resultMessage)
+  pub error : errorBlock ≡ layout (version 0 0) (groupsAt errorBlockRun)
+  pub client : hello 0 1 ≡ layout (version 0 0) (groupsAt helloClient)
+  pub daemon : hello 2 3 ≡ layout (version 0 0) (groupsAt helloDaemon)
+  pub clientFeatures : once (featureFields 0) ∷ [] ≡ groupsAt featuresClient
+  pub daemonFeatures : once (featureFields 1) ∷ [] ≡ groupsAt featuresDaemon
+  pub obsoletes : once obsoleteFields ∷ [] ≡ groupsAt obsolete
+  pub infos : once infoFields ∷ [] ≡ groupsAt info
+
+pub others : Others
+unfolding messageOf errorBlock groupsAt groupsIn consRun groupOf itemsAt items consItem unlessEnd itemOf whatOf slotOf roleOf fieldTable runTable
+others =
+    record {
+      next = refl;
+      write = refl;
+      read = refl;
+      stopped = refl;
+      started = refl;
+      result = refl;
+      error = refl;
+      client = refl;
+      daemon = refl;
+      clientFeatures = refl;
+      daemonFeatures = refl;
+      obsoletes = refl;
+      infos = refl;
+    }

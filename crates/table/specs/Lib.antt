@@ -1,0 +1,3 @@
+pub mod Packed
+pub mod Table
+pub mod Claims

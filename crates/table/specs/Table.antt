@@ -1,0 +1,109 @@
+-- What the packed numbers say, in the words of `layouts`. Past its end a table reads as 0.
+use Prim.Native.Nat.{ℕ, _-_, _/_, _%_}
+use mathlib.Core.List.{List, [], _∷_}
+use mathlib.Core.Bool.{Bool, true, false}
+use lib.ListN.{getD, drop}
+use lib.Dec.{ltb, eqb}
+use Rattle.layouts.specs.Primitive.{pick, Version, version, atLeast}
+use Rattle.layouts.specs.Shape.{Slot, dropped, asNumber, asFlag, asCount, asPresence, Role, passed, checked, kept, What, num, str, set, pairs, framed, maybe, typed, Item, always, from, below, Group, once, opt, many}
+use Rattle.table.specs.declared.Field.{Field}
+use Rattle.table.specs.declared.Run.{Run}
+use Rattle.table.specs.declared.Row.{Row}
+use Rattle.table.specs.declared.Found.{Found}
+use Rattle.table.specs.declared.Found.the-variants as F
+use Rattle.table.specs.Packed.{fieldTable, runTable, rows}
+
+abbrev pub fieldOf : ℕ → Field
+fieldOf x = record { kind = x % 16; role = x / 16 % 4; slot = x / 64 % 64; gate = x / 4096 % 4; minor = x / 16384 % 256 }
+
+abbrev pub runOf : ℕ → Run
+runOf x = record { kind = x % 4; slot = x / 4 % 64; start = x / 256 }
+
+unfoldable pub fieldAt : ℕ → Field
+fieldAt pc = fieldOf (getD fieldTable pc 0)
+
+unfoldable pub runAt : ℕ → Run
+runAt i = runOf (getD runTable i 0)
+
+-- ---- roles and slots by number
+unfoldable pub roleOf : ℕ → Role
+roleOf r = pick (eqb r 0) passed (pick (eqb r 1) checked kept)
+
+unfoldable pub slotOf : ℕ → Slot
+slotOf i =
+    pick (eqb i 0) dropped
+    (pick (ltb i 13) (asNumber (i - 1)) (pick (ltb i 25) (asFlag (i - 13)) (pick (ltb i 28) (asCount (i - 25)) asPresence)))
+
+-- ---- a field, and the fields of a run up to its end
+unfoldable pub whatOf : (kind : ℕ) → Role → Slot → What
+whatOf kind r i =
+    pick (eqb kind 2) (str r)
+    (pick (eqb kind 5) framed
+    (pick (eqb kind 3) (set r i) (pick (eqb kind 4) (pairs r i) (pick (eqb kind 6) maybe (pick (eqb kind 7) typed (num i))))))
+
+unfoldable pub itemOf : (gate minor : ℕ) → What → Item
+itemOf gate minor w = pick (eqb gate 0) (always w) (pick (eqb gate 1) (from minor w) (below minor w))
+
+-- what follows an end is not computed
+unfoldable pub unlessEnd : {A : Type 0} → (ends : Bool) → A → (Unit {0} → List A) → List A
+unlessEnd true x rest = []
+unlessEnd false x rest = x ∷ rest tt
+
+unfoldable pub consItem : Field → (Unit {0} → List Item) → List Item
+unfolding whatOf itemOf roleOf slotOf
+consItem f rest = unlessEnd (eqb (f .kind) 0) (itemOf (f .gate) (f .minor) (whatOf (f .kind) (roleOf (f .role)) (slotOf (f .slot)))) rest
+
+unfoldable pub items : List ℕ → List Item
+items [] = []
+items (x ∷ xs) = consItem (fieldOf x) (λ u. items xs)
+
+unfoldable pub itemsAt : ℕ → List Item
+itemsAt pc = items (drop pc fieldTable)
+
+-- ---- a run, and the runs of a layout up to its end
+unfoldable pub groupOf : (kind : ℕ) → Slot → List Item → Group
+groupOf kind i is = pick (eqb kind 2) (opt i is) (pick (eqb kind 3) (many i is) (once is))
+
+unfoldable pub consRun : Run → (Unit {0} → List Group) → List Group
+consRun r rest = unlessEnd (eqb (r .kind) 0) (groupOf (r .kind) (slotOf (r .slot)) (itemsAt (r .start))) rest
+
+unfoldable pub groupsIn : List ℕ → List Group
+groupsIn [] = []
+groupsIn (x ∷ xs) = consRun (runOf x) (λ u. groupsIn xs)
+
+unfoldable pub groupsAt : ℕ → List Group
+groupsAt i = groupsIn (drop i runTable)
+
+-- ---- the row of an operation
+unfoldable pub findIn : List Row → (op : ℕ) → Found
+findIn [] op = F.Unknown
+findIn (r ∷ rs) op = pick (eqb (r .number) op) (F.Row r) (findIn rs op)
+
+unfoldable pub rowFor : (op : ℕ) → Found
+rowFor op = findIn rows op
+
+-- ---- kinds by number
+pub data Numbered : Type 0 where
+  just : ℕ → Numbered
+  byVersion : ℕ → Numbered → Numbered → Numbered
+  byFlag : Numbered → Numbered → Numbered
+
+abbrev pub numberedValue : Version → (present : Bool) → Numbered → ℕ
+numberedValue v b (just n) = n
+numberedValue v b (byVersion x k l) = pick (atLeast v (version 1 x)) (numberedValue v b k) (numberedValue v b l)
+numberedValue v b (byFlag k l) = pick b (numberedValue v b k) (numberedValue v b l)
+
+abbrev pathInfo : Numbered
+pathInfo = byVersion 16 (just 3) (just 4)
+
+unfoldable pub numberedOf : (code : ℕ) → Numbered
+numberedOf c =
+    pick (eqb c 32) (byVersion 25 (just 13) (just 0))
+    (pick (eqb c 33) (byVersion 25 pathInfo (just 2))
+    (pick (eqb c 34) (byVersion 12 (just 4) (just 1))
+    (pick (eqb c 35) (byFlag (just 9) (just 10))
+    (pick (eqb c 36) (byFlag pathInfo (just 5))
+    (pick (eqb c 37) (byVersion 23 (just 12) (just 0)) (just c))))))
+
+abbrev pub kindNumbered : Version → (present : Bool) → (code : ℕ) → ℕ
+kindNumbered v b c = numberedValue v b (numberedOf c)

@@ -1,0 +1,44 @@
+use Prim.Native.Nat.{_-_}
+use mathlib.Core.Path.{sym}
+use native.Mathlib.Omega.{arith}
+use borrow.Author.Needs.{needs}
+use Rattle.layouts.specs.Writers.{storeDirectory}
+use Rattle.views.proofs.Laws.{Passed, passed-none, passed-more, passed-fail, passed-all}
+use Rattle.views.proofs.in_store.Statement.{statement}
+use Rattle.views.proofs.in_store.Tie as tie
+
+abbrev Inv-loop : tie.InvT-loop
+Inv-loop s directory i₀ i = Passed storeDirectory s i
+
+abbrev μ-loop : tie.MeasureT-loop
+μ-loop s directory i₀ i = 11 - i
+
+returns : tie.Need-returns Inv-loop μ-loop
+returns c =
+    let l = c .before .before .before .before .loop in
+    sym (passed-fail storeDirectory _ (c .before .before .before .before .before .before .pre) (l .i) (l .inv) (omega arith) (c .if1 .taken))
+
+loop-again : tie.Need-loop-again Inv-loop μ-loop
+loop-again c =
+    let l = c .before .before .before .before .loop in
+    passed-more storeDirectory _ (c .before .before .before .before .before .before .pre) (l .i) (l .inv) (omega arith) (c .if1 .left)
+
+returns-2 : tie.Need-returns-2 Inv-loop μ-loop
+returns-2 c =
+    let l = c .before .loop in
+    sym (passed-all storeDirectory _ (c .before .before .before .pre) (l .i) (l .inv) (omega arith))
+
+pub in-store-spec : {M : Type 1} → statement M
+in-store-spec =
+    tie.close
+    (tie.spec
+    Inv-loop
+    μ-loop
+    (λ c. passed-none _ _)
+    (λ c. search needs)
+    (λ c. search needs)
+    returns
+    (λ c. search needs)
+    (λ c. search needs)
+    loop-again
+    returns-2)

@@ -1,0 +1,5 @@
+pub mod Trees
+pub mod Found
+pub mod Nodes
+pub mod Measure
+pub mod Ways

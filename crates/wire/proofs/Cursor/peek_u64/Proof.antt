@@ -1,0 +1,15 @@
+use borrow.Author.Needs.{needs}
+use Rattle.wire.proofs.Cursor.peek_u64.Statement.{statement}
+use Rattle.wire.proofs.Cursor.peek_u64.Tie as tie
+use Rattle.wire.specs.Pieces.{numRead}
+use Rattle.wire.proofs.Numbers.{as-told}
+
+pub peek-u64-spec : {M : Type 1} → statement M
+peek-u64-spec =
+    tie.close
+    (tie.spec
+    (λ c κs. search needs)
+    (λ c. search needs)
+    (λ c. search needs)
+    (λ c. as-told numRead (c .before .n .given .1) (c .before .before .before .number-at .ensures))
+    (λ c. as-told numRead (c .enum-told .given .1) (c .before .before .number-at .ensures)))

@@ -1,0 +1,13 @@
+use borrow.Author.Needs.{needs}
+use Rattle.wire.proofs.Cursor.read_string.Statement.{statement}
+use Rattle.wire.proofs.Cursor.read_string.Tie as tie
+use mathlib.Core.Path.{_∙_}
+use denote.Ref.{now}
+use Rattle.wire.proofs.Strings.{text-is}
+
+pub read-string-spec : {M : Type 1} → statement M
+read-string-spec =
+    tie.close
+    (tie.spec
+    (λ c κs. search needs)
+    (λ c. c .string-at .ensures ∙ text-is (now (c .before .before .args .s)) (c .before .before .args .self .at)))

@@ -1,0 +1,17 @@
+use borrow.Author.Needs.{needs}
+use Rattle.wire.proofs.Cursor.read_u32.Statement.{statement}
+use Rattle.wire.proofs.Cursor.read_u32.Tie as tie
+use native.Mathlib.Omega.{arith}
+use denote.Ref.{now}
+use Rattle.wire.proofs.Numbers.{word-known, u32-read, u32-cut}
+
+pub read-u32-spec : {M : Type 1} → statement M
+read-u32-spec =
+    tie.close
+    (tie.spec
+    (λ c κs. search needs)
+    (λ c. search needs)
+    (λ c. omega (arith, word-known 4 (now (c .before .before .before .before .before .args .s)) (c .before .before .before .before .before .args .self .at) _ (c .before .before .before .four-at .ensures) _ (c .before .small .given .1)))
+    (λ c. search needs)
+    (λ c. search u32-read)
+    (λ c. search u32-cut))

@@ -1,0 +1,17 @@
+use borrow.Author.Needs.{needs}
+use Rattle.wire.proofs.Cursor.read_u64.Statement.{statement}
+use Rattle.wire.proofs.Cursor.read_u64.Tie as tie
+use native.Mathlib.Omega.{arith}
+use denote.Ref.{now}
+use Rattle.wire.proofs.Numbers.{number-known, number-read, number-cut}
+
+pub read-u64-spec : {M : Type 1} → statement M
+read-u64-spec =
+    tie.close
+    (tie.spec
+    (λ c κs. search needs)
+    (λ c. search needs)
+    (λ c. omega (arith, number-known (now (c .before .before .before .before .before .args .s)) (c .before .before .before .before .before .args .self .at) _ (c .before .before .before .number-at .ensures) _ (c .before .n .given .1)))
+    (λ c. search needs)
+    (λ c. search number-read)
+    (λ c. search number-cut))

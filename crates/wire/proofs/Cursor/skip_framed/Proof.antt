@@ -1,0 +1,11 @@
+use borrow.Author.Needs.{needs}
+use Rattle.wire.proofs.Cursor.skip_framed.Statement.{statement}
+use Rattle.wire.proofs.Cursor.skip_framed.Tie as tie
+use Rattle.wire.proofs.Frames.{framed-skip}
+
+pub skip-framed-spec : {M : Type 1} → statement M
+skip-framed-spec =
+    tie.close
+    (tie.spec
+    (λ c κs. search needs)
+    (λ c. search framed-skip))

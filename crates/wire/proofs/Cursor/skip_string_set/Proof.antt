@@ -1,0 +1,22 @@
+use borrow.Author.Needs.{needs}
+use Rattle.wire.proofs.Cursor.skip_string_set.Statement.{statement}
+use Rattle.wire.proofs.Cursor.skip_string_set.Tie as tie
+use native.Mathlib.Omega.{arith}
+use denote.Ref.{now}
+use Rattle.wire.proofs.Numbers.{number-known}
+use Rattle.wire.proofs.Sets.{skip-set-cut, skip-set-past, skip-set-refused}
+
+pub skip-string-set-spec : {M : Type 1} → statement M
+skip-string-set-spec =
+    tie.close
+    (tie.spec
+    (λ c κs. search needs)
+    (λ c. search needs)
+    (λ c. search needs)
+    (λ c. omega (arith, number-known (now (c .before .before .before .before .before .args .s)) (c .before .before .before .before .before .args .self .at) _ (c .before .before .before .number-at .ensures) _ (c .before .count .given .1)))
+    (λ c κs. search needs)
+    (λ c. search needs)
+    (λ c. search needs)
+    (λ c. search skip-set-cut)
+    (λ c. search skip-set-refused)
+    (λ c. search skip-set-past))

@@ -1,0 +1,23 @@
+use borrow.Author.Needs.{needs}
+use Rattle.writers.proofs.put_chunk.Statement.{statement}
+use Rattle.writers.proofs.put_chunk.Tie as tie
+use native.Mathlib.Omega.{arith}
+use Prim.Native.Nat.{_-_}
+use denote.Ref.{now}
+use Rattle.writers.proofs.Framed.{chunk-put}
+
+returns : tie.Need-returns
+returns c =
+    let a = c .before .before .before .before .before .before .before .args in
+    chunk-put _ _ (a .c .now) _ (a .from) (a .to - a .from) (omega arith) (c .before .before .put-counted .ensures)
+
+pub put-chunk-spec : {M : Type 1} → statement M
+put-chunk-spec =
+    tie.close
+    (tie.spec
+    (λ c. search needs)
+    (λ c. search needs)
+    (λ c. search needs)
+    (λ c κs. search needs)
+    (λ c. search needs)
+    returns)

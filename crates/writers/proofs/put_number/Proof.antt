@@ -1,0 +1,15 @@
+use borrow.Author.Needs.{needs}
+use Rattle.writers.proofs.put_number.Statement.{statement}
+use Rattle.writers.proofs.put_number.Tie as tie
+use Rattle.writers.proofs.Laws.{numbered}
+
+pub put-number-spec : {M : Type 1} → statement M
+put-number-spec =
+    tie.close
+    (tie.spec
+    (λ c. search needs)
+    (λ c. search needs)
+    (λ c. search needs)
+    (λ c κs. search needs)
+    (λ c. search needs)
+    (λ c. numbered _ _ _ _ (c .before .before .before .before .before .pre) (c .before .before .write .ensures .1)))
