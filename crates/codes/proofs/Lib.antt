@@ -1,5 +1,4 @@
--- `Versions` and `Messages` hold what the codes mean by the definitions of `layouts`, `Known` that the table is its table, `Unique` that each contract determines its answer.
+-- `Versions` and `Messages` hold what the codes mean by the definitions of `layouts`, `Unique` that each contract determines its answer.
 pub mod Versions
 pub mod Messages
-pub mod Known
 pub mod Unique
