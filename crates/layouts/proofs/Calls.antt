@@ -1,6 +1,6 @@
--- Demand 3 and the agreement of reading with skipping, for the public calls on replies and arguments.
+-- Demand 3 for the public calls on replies and arguments, and the agreement of reading with skipping for replies; for arguments it is in Arguments.
 use Prim.Native.Nat.{ℕ, _≤_}
-use mathlib.Core.Path.{_≡_, refl, _∙_, ap}
+use mathlib.Core.Path.{_≡_, refl, sym, _∙_, ap}
 use mathlib.Core.List.{List}
 use mathlib.Core.Bool.{Bool, true, false}
 use lib.ListN.{drop}
@@ -32,9 +32,13 @@ unless-answered s (chunk start len p) x k = unless-answered s p x k
 unless-answered s (end place) x k = refl
 unless-answered s (fault which place) x k = refl
 
-answer-of : (v : Version) (k : Kinds) (o : Result Ended) (x : Answer) → answered v k o ≡ ok x → (y : Ended) × (o ≡ ok y) × (answered v k (ok y) ≡ ok x)
+pub answer-of : (v : Version) (k : Kinds) (o : Result Ended) (x : Answer) → answered v k o ≡ ok x → (y : Ended) × (o ≡ ok y) × (answered v k (ok y) ≡ ok x)
 answer-of v k (ok y) x e = (y, refl, e)
 answer-of v k (refused which place stream) x e = absurd (never-both e)
+
+pub refused-of : (v : Version) (k : Kinds) (o : Result Ended) (which place stream : ℕ) → answered v k o ≡ refused which place stream → o ≡ refused which place stream
+refused-of v k (ok y) which place stream e = absurd (never-both (sym e))
+refused-of v k (refused w p t) which place stream e = cc
 
 -- what the pieces mean: kind, end, numbers, flags and counts
 abbrev pub meaningOf : Version → Kinds → Pieces → (e : ℕ) → Result Answer
@@ -93,6 +97,9 @@ module _ (op : ℕ) (v : Version) (s s' : List ℕ) where
   soft-skip-arguments a x e = soft-answer-of (skippedTree op v) v _ s s' a 1 0 x e
 
 -- ---- reading agrees with skipping
+pub refused-onward : {A B : Type 0} (place : ℕ) (o : Result A) (k : A → Result B) → RefusedBy place o → RefusedBy place (onward o k)
+refused-onward place o k r = (r .0, r .1, ap (λ (y : Result _). onward y k) (r .2), r .3)
+
 module _ (op : ℕ) (v : Version) (s : List ℕ) (slots room : ℕ) where
   -- where reading succeeds, skipping ends at the same byte
   pub read-skips : (x : Answer) → readDaemonResult op v s slots room ≡ ok x → skipDaemonResult op v s ≡ ok (x .ends)
@@ -101,9 +108,6 @@ module _ (op : ℕ) (v : Version) (s : List ℕ) (slots room : ℕ) where
       let y = answer-of v (kindBy (find op) (λ o. o .replyKind)) (judgeOf s slots room blank (run (replyTree op v) s 0)) x e in
       let z : y .0 .ends ≡ x .ends = cc in
       judge-read s slots room blank (run (replyTree op v) s 0) (y .0) (y .1) .skips ∙ ap ok z
-
-  refused-onward : {A B : Type 0} (place : ℕ) (o : Result A) (k : A → Result B) → RefusedBy place o → RefusedBy place (onward o k)
-  refused-onward place o k r = (r .0, r .1, ap (λ (y : Result _). onward y k) (r .2), r .3)
 
   row-refused : (f : Row) (k : Kinds) (which place : ℕ) → skipOf (run (byRow f (λ o. layout v (o .reply))) s 0) ≡ refused which place 0
       → RefusedBy place (readOf v k slots room s (byRow f (λ o. layout v (o .reply))))

@@ -45,12 +45,12 @@ record-room r (end place) = (omega arith, omega arith)
 record-room r (fault which place) = (omega arith, omega arith)
 
 -- a string or a chunk that is read: its text is bad, there is no room, or it goes on with this record
-data Step (bad : Bool) (lacks fits : Type 0) (start : ℕ) (r : Record) : Result Record → Type 0 where
+pub data Step (bad : Bool) (lacks fits : Type 0) (start : ℕ) (r : Record) : Result Record → Type 0 where
   is-bad : bad ≡ true → Step bad lacks fits start r (refused badText start 0)
   no-room : (which : ℕ) → lacks → Step bad lacks fits start r (refused which (start - 8) 0)
   goes-on : bad ≡ false → fits → Step bad lacks fits start r (ok r)
 
-text-step : (s : List ℕ) (slots : ℕ) (r : Record) (m : Role) (start len : ℕ)
+pub text-step : (s : List ℕ) (slots : ℕ) (r : Record) (m : Role) (start len : ℕ)
     → Step (notText s m start len) (slots < r .entries + pick (isKept m) 1 0) (r .entries ≤ slots → r .entries + pick (isKept m) 1 0 ≤ slots) start (entered r m)
     (textTaken s slots r m start len)
 unfolding textTaken

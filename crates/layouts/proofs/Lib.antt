@@ -1,5 +1,5 @@
--- Theorems about the definitions of `specs/`. `Exact`, `RoundTrip`, `Theorems`, `Calls`, `Talk` and `Examples` hold what docs/PROOFS.md cites; the others serve them
--- and the crates above.
+-- Theorems about the definitions of `specs/`. `Exact`, `RoundTrip`, `Theorems`, `Calls`, `Arguments`, `Talk` and `Examples` hold what docs/PROOFS.md cites; the
+-- others serve them and the crates above.
 pub mod Little
 pub mod Views
 pub mod Steps
@@ -10,6 +10,8 @@ pub mod Soft
 pub mod Judge
 pub mod Theorems
 pub mod Calls
+pub mod Lowers
+pub mod Arguments
 pub mod RoundTrip
 pub mod Stderr
 pub mod Talk
