@@ -1,2 +1,3 @@
 pub mod Tables
 pub mod Rows
+pub mod Roles

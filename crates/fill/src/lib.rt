@@ -1,0 +1,227 @@
+// Filling: what the pieces of a layout report goes into lent memory, the entries and the payload. No text is looked at: what is filled in was judged before.
+// What lies past the end of the room falls away, so that no call asks for anything.
+ghost use mathlib.Core.Path.{_≡_};
+ghost use mathlib.Core.List.{[], _∷_};
+ghost use Prim.Native.Nat.{_+_, _≤_};
+ghost use lib.ListN.{length, take, drop};
+ghost use lib.Seq.{sets};
+ghost use Rattle.layouts.specs.Primitive.{version};
+ghost use Rattle.layouts.specs.Judge.{entriesOf, payloadOf};
+ghost use Rattle.walk.specs.Walk.{rest, fuel, layoutPieces};
+ghost use Rattle.fill.specs.Fill.{keptOf, chunkedOf, FoundFalls, Put};
+use walk::Step;
+use walk::Walk;
+
+// The next part of the stream that is to be reported, and the walk after it.
+enum Found {
+    Part {
+        start: usize,
+        len: usize,
+        next: Walk,
+    },
+    Over,
+}
+
+// The next string that is kept, past whatever comes before it.
+fn next_kept(s: &[u8], w: Walk) -> Found
+    ensures law { λ r. ⌜ entriesOf (rest (now (s .entry)) w) ≡ keptOf (now (s .entry)) r ⌝ }
+    ensures falls { λ r. ⌜ FoundFalls (now (s .entry)) (fuel (now (s .entry)) w) r ⌝ }
+{
+    let mut v = w;
+    loop {
+        let st = walk::next(s, v);
+        match st {
+            Step::Number {
+                slot: _,
+                value: _,
+                place: _,
+                next,
+            } => {
+                v = next;
+            }
+            Step::Text {
+                role,
+                start,
+                len,
+                next,
+            } => {
+                if role < table::KEPT {
+                    v = next;
+                } else {
+                    return Found::Part { start, len, next };
+                }
+            }
+            Step::Half {
+                role: _,
+                start: _,
+                len: _,
+            } => {
+                return Found::Over;
+            }
+            Step::Chunk {
+                start: _,
+                len: _,
+                next,
+            } => {
+                v = next;
+            }
+            Step::Quiet(next) => {
+                v = next;
+            }
+            Step::Done(_) => {
+                return Found::Over;
+            }
+            Step::Refused { which: _, place: _ } => {
+                return Found::Over;
+            }
+        }
+    }
+}
+
+// The next chunk, past whatever comes before it.
+fn next_chunk(s: &[u8], w: Walk) -> Found
+    ensures law { λ r. ⌜ payloadOf (now (s .entry)) (rest (now (s .entry)) w) ≡ chunkedOf (now (s .entry)) r ⌝ }
+    ensures falls { λ r. ⌜ FoundFalls (now (s .entry)) (fuel (now (s .entry)) w) r ⌝ }
+{
+    let mut v = w;
+    loop {
+        let st = walk::next(s, v);
+        match st {
+            Step::Number {
+                slot: _,
+                value: _,
+                place: _,
+                next,
+            } => {
+                v = next;
+            }
+            Step::Text {
+                role: _,
+                start: _,
+                len: _,
+                next,
+            } => {
+                v = next;
+            }
+            Step::Half {
+                role: _,
+                start: _,
+                len: _,
+            } => {
+                return Found::Over;
+            }
+            Step::Chunk { start, len, next } => {
+                return Found::Part { start, len, next };
+            }
+            Step::Quiet(next) => {
+                v = next;
+            }
+            Step::Done(_) => {
+                return Found::Over;
+            }
+            Step::Refused { which: _, place: _ } => {
+                return Found::Over;
+            }
+        }
+    }
+}
+
+// A number into the room, and the place after it.
+fn put(out: &mut [u64], at: usize, x: u64) -> usize
+    ensures { λ r. ⌜ Put (now (out .entry)) at (x ∷ []) (now (out .exit)) r ⌝ }
+{
+    if at < out.len() {
+        out[at] = x;
+        return at + 1;
+    }
+    at
+}
+
+fn put_entry(out: &mut [u64], at: usize, start: usize, len: usize) -> usize
+    ensures { λ r. ⌜ Put (now (out .entry)) at (start ∷ len ∷ []) (now (out .exit)) r ⌝ }
+{
+    let second = put(out, at, start as u64);
+    put(out, second, len as u64)
+}
+
+// Start and length of each string that is kept, into the room from a place on, and the place after them.
+pub fn fill_entries(
+    s: &[u8],
+    at: usize,
+    major: u16,
+    minor: u8,
+    run: usize,
+    out: &mut [u64],
+    from: usize,
+) -> usize
+    ensures { λ r. ⌜ Put (now (out .entry)) from (entriesOf (layoutPieces (version major minor) run (now (s .entry)) at)) (now (out .exit)) r ⌝ }
+{
+    let mut w = walk::begin(major, minor, run, at);
+    let mut n = from;
+    loop {
+        let e = next_kept(s, w);
+        match e {
+            Found::Over => {
+                return n;
+            }
+            Found::Part { start, len, next } => {
+                n = put_entry(out, n, start, len);
+                w = next;
+            }
+        }
+    }
+}
+
+// A part of the stream into a part of the room that holds it.
+fn copy_part(s: &[u8], start: usize, len: usize, out: &mut [u8], filled: usize)
+    requires { ⌜ (start + len ≤ length (now s)) × (filled + len ≤ length (now out)) ⌝ }
+    ensures { λ r. ⌜ now (out .exit) ≡ sets (now (out .entry)) filled (take len (drop start (now (s .entry)))) ⌝ }
+{
+    let end = start + len;
+    bytes::copy(&s[start..end], &mut out[filled..]);
+}
+
+// A chunk of the stream, into the room from where the last one stopped, and the place after it.
+fn put_chunk(s: &[u8], start: usize, len: usize, out: &mut [u8], filled: usize) -> usize
+    requires { ⌜ start + len ≤ length (now s) ⌝ }
+    ensures { λ r. ⌜ Put (now (out .entry)) filled (take len (drop start (now (s .entry)))) (now (out .exit)) r ⌝ }
+{
+    let size = out.len();
+    if size <= filled {
+        return filled;
+    }
+    let room = size - filled;
+    if room < len {
+        copy_part(s, start, room, out, filled);
+        return size;
+    }
+    copy_part(s, start, len, out, filled);
+    filled + len
+}
+
+// The chunks, joined, at the start of the room, and the place after them.
+pub fn join_payload(
+    s: &[u8],
+    at: usize,
+    major: u16,
+    minor: u8,
+    run: usize,
+    out: &mut [u8],
+) -> usize
+    ensures { λ r. ⌜ Put (now (out .entry)) 0 (payloadOf (now (s .entry)) (layoutPieces (version major minor) run (now (s .entry)) at)) (now (out .exit)) r ⌝ }
+{
+    let mut w = walk::begin(major, minor, run, at);
+    let mut filled: usize = 0;
+    loop {
+        let e = next_chunk(s, w);
+        match e {
+            Found::Over => {
+                return filled;
+            }
+            Found::Part { start, len, next } => {
+                filled = put_chunk(s, start, len, out, filled);
+                w = next;
+            }
+        }
+    }
+}

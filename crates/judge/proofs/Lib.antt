@@ -1,0 +1,4 @@
+pub mod Notes
+pub mod Pieces
+pub mod Judging
+pub mod Answers

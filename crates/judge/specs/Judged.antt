@@ -1,0 +1,32 @@
+-- What `layouts` says, as the code answers it.
+use Prim.Native.Nat.{ℕ}
+use Rattle.layouts.specs.declared.Record.{Record}
+use Rattle.layouts.specs.Primitive.{Result, ok, refused}
+use Rattle.layouts.specs.Record.{blank}
+use Rattle.layouts.specs.Judge.{Ended}
+use Rattle.layouts.specs.Calls as L
+use Rattle.judge.specs.declared.Outcome.the-variants.{Fine, Refused}
+use Rattle.judge.specs.declared.Judged.{Judged}
+use Rattle.judge.specs.declared.Answer.{Answer}
+use Rattle.judge.specs.declared.Taken.{Taken}
+use Rattle.judge.specs.declared.Taken.the-variants as T
+use Rattle.judge.specs.declared.Skipped.{Skipped}
+use Rattle.judge.specs.declared.Skipped.the-variants as S
+
+-- a refusal says only number, place and stream
+abbrev pub judgedAs : Result Ended → Judged
+judgedAs (ok x) = record { outcome = Fine; found = x .found; ends = x .ends }
+judgedAs (refused which place stream) = record { outcome = Refused which place stream; found = blank; ends = 0 }
+
+abbrev pub answerAs : Result L.Answer → Answer
+answerAs (ok x) = record { outcome = Fine; kind = x .kind; ends = x .ends; ends2 = x .ends2; found = x .found }
+answerAs (refused which place stream) = record { outcome = Refused which place stream; kind = 0; ends = 0; ends2 = 0; found = blank }
+
+abbrev pub skipped : Skipped → Result ℕ
+skipped (S.Past ends) = ok ends
+skipped (S.Refused which place) = refused which place 0
+
+-- the record after one piece
+abbrev pub taken : (ℕ → Record) → Taken → Result Record
+taken with (T.Fine n) = ok (with n)
+taken with (T.Refused which place) = refused which place 0

@@ -1,0 +1,346 @@
+// The judge: a walk without writes that ends in the record of a layout, or in the first refusal. Text and room are judged here, and not in the walk.
+// The skipper: the same walk, with no look at text and room.
+ghost use mathlib.Core.Path.{_≡_};
+ghost use Prim.Native.Nat.{_+_, _-_, _≤_};
+ghost use lib.ListN.{length};
+ghost use Rattle.layouts.specs.Primitive.{version, refused};
+ghost use Rattle.layouts.specs.Shape.{truth};
+ghost use Rattle.layouts.specs.Pieces.{skipOf};
+ghost use Rattle.layouts.specs.Record.{blank, withNumber, withCount, withEntries, withPayload, noted};
+ghost use Rattle.layouts.specs.Judge.{notText, textTaken, halfTaken, chunkTaken, judgeOf};
+ghost use Rattle.table.specs.Table.{roleOf, slotOf};
+ghost use Rattle.walk.specs.Walk.{layoutPieces};
+ghost use Rattle.judge.specs.Judged.{taken, judgedAs, skipped};
+use layouts::Record;
+use walk::Step;
+
+// Refusals: a piece needs more bytes than remain, contents that are no text, a kept string has no slot, a chunk does not fit in what is left.
+const CUT_SHORT: u64 = 1;
+
+const BAD_TEXT: u64 = 3;
+
+const NO_ENTRY_ROOM: u64 = 4;
+
+const NO_PAYLOAD_ROOM: u64 = 5;
+
+// The stream is 1 for the daemon's of a handshake and else 0.
+pub enum Outcome {
+    Fine,
+    Refused {
+        which: u64,
+        place: usize,
+        stream: u64,
+    },
+}
+
+// On a refusal the record is blank and the end 0.
+pub struct Judged {
+    pub outcome: Outcome,
+    pub found: Record,
+    pub ends: usize,
+}
+
+// What a call answers: its kind, where it ended on the stream (a handshake on both), and the record. On a refusal all but the outcome is blank.
+pub struct Answer {
+    pub outcome: Outcome,
+    pub kind: u64,
+    pub ends: usize,
+    pub ends2: usize,
+    pub found: Record,
+}
+
+pub enum Skipped {
+    Past(usize),
+    Refused { which: u64, place: usize },
+}
+
+// What a string or chunk makes of the entries, or of the payload, so far.
+enum Taken {
+    Fine(usize),
+    Refused { which: u64, place: usize },
+}
+
+pub fn empty() -> Record
+    ensures { λ r. ⌜ r ≡ blank ⌝ }
+{
+    Record {
+        numbers: [0u64; 12],
+        counts: [0u64; 3],
+        present: false,
+        entries: 0,
+        payload: 0,
+    }
+}
+
+pub fn refuse(which: u64, place: usize) -> Judged
+    ensures { λ r. ⌜ r ≡ judgedAs (refused which place 0) ⌝ }
+{
+    Judged {
+        outcome: Outcome::Refused {
+            which,
+            place,
+            stream: 0,
+        },
+        found: empty(),
+        ends: 0,
+    }
+}
+
+fn with_number(r: Record, i: usize, x: u64) -> Record
+    ensures { λ o. ⌜ o ≡ withNumber r i x ⌝ }
+{
+    let mut next = r;
+    if i < 12 {
+        next.numbers[i] = x;
+    }
+    next
+}
+
+fn with_count(r: Record, i: usize, x: u64) -> Record
+    ensures { λ o. ⌜ o ≡ withCount r i x ⌝ }
+{
+    let mut next = r;
+    if i < 3 {
+        next.counts[i] = x;
+    }
+    next
+}
+
+fn flag(x: u64) -> u64
+    ensures { λ r. ⌜ r ≡ truth x ⌝ }
+{
+    if x == 0 {
+        return 0;
+    }
+    1
+}
+
+// The record after a number, by the slot that the table gives it.
+fn note(r: Record, slot: u8, x: u64) -> Record
+    ensures { λ o. ⌜ o ≡ noted r (slotOf slot) x ⌝ }
+{
+    let i = slot as usize;
+    if i == 0 {
+        return r;
+    }
+    if i < 13 {
+        return with_number(r, i - 1, x);
+    }
+    if i < 25 {
+        return with_number(r, i - 13, flag(x));
+    }
+    if i < 28 {
+        return with_count(r, i - 25, x);
+    }
+    let mut next = r;
+    next.present = x != 0;
+    next
+}
+
+// The place of a length, from that of the contents.
+fn place_of(start: usize) -> usize
+    ensures { λ r. ⌜ r ≡ start - 8 ⌝ }
+{
+    if start < 8 {
+        return 0;
+    }
+    start - 8
+}
+
+// Contents that are to be text and are not.
+fn is_bad(s: &[u8], role: u8, start: usize, len: usize) -> bool
+    requires { ⌜ start + len ≤ length (now s) ⌝ }
+    ensures { λ r. ⌜ r ≡ notText (now (s .entry)) (roleOf role) start len ⌝ }
+{
+    if role == table::PASSED {
+        return false;
+    }
+    let end = start + len;
+    !text::is_text(&s[start..end])
+}
+
+// A whole string: 3, then 4, or the record with the string counted where it is kept.
+fn take_text(s: &[u8], slots: usize, r: Record, role: u8, start: usize, len: usize) -> Taken
+    requires { ⌜ start + len ≤ length (now s) ⌝ }
+    ensures { λ o. ⌜ taken (withEntries r) o ≡ textTaken (now (s .entry)) slots r (roleOf role) start len ⌝ }
+{
+    if is_bad(s, role, start, len) {
+        return Taken::Refused {
+            which: BAD_TEXT,
+            place: start,
+        };
+    }
+    let n = r.entries;
+    if role < table::KEPT {
+        return Taken::Fine(n);
+    }
+    if slots <= n {
+        return Taken::Refused {
+            which: NO_ENTRY_ROOM,
+            place: place_of(start),
+        };
+    }
+    Taken::Fine(n + 1)
+}
+
+// A string whose padding is cut short: 3, else 1.
+fn take_half(s: &[u8], role: u8, start: usize, len: usize) -> Judged
+    requires { ⌜ start + len ≤ length (now s) ⌝ }
+    ensures { λ o. ⌜ o ≡ judgedAs (halfTaken (now (s .entry)) (roleOf role) start len) ⌝ }
+{
+    if is_bad(s, role, start, len) {
+        return refuse(BAD_TEXT, start);
+    }
+    refuse(CUT_SHORT, start + len)
+}
+
+// A chunk: 5, or the record with its bytes counted.
+fn take_chunk(room: usize, r: Record, start: usize, len: usize) -> Taken
+    ensures { λ o. ⌜ taken (withPayload r) o ≡ chunkTaken room r start len ⌝ }
+{
+    let n = r.payload;
+    let place = place_of(start);
+    if room < n {
+        return Taken::Refused {
+            which: NO_PAYLOAD_ROOM,
+            place,
+        };
+    }
+    if room - n < len {
+        return Taken::Refused {
+            which: NO_PAYLOAD_ROOM,
+            place,
+        };
+    }
+    Taken::Fine(n + len)
+}
+
+// The layout that starts at a run, from a place of the stream on, with the record so far and room for so many entries and payload bytes in all.
+pub fn judge(
+    s: &[u8],
+    at: usize,
+    major: u16,
+    minor: u8,
+    run: usize,
+    slots: usize,
+    room: usize,
+    sofar: Record,
+) -> Judged
+    ensures { λ r. ⌜ r ≡ judgedAs (judgeOf (now (s .entry)) slots room sofar (layoutPieces (version major minor) run (now (s .entry)) at)) ⌝ }
+{
+    let mut w = walk::begin(major, minor, run, at);
+    let mut got = sofar;
+    loop {
+        let st = walk::next(s, w);
+        match st {
+            Step::Number {
+                slot,
+                value,
+                place: _,
+                next,
+            } => {
+                got = note(got, slot, value);
+                w = next;
+            }
+            Step::Text {
+                role,
+                start,
+                len,
+                next,
+            } => {
+                let t = take_text(s, slots, got, role, start, len);
+                match t {
+                    Taken::Refused { which, place } => {
+                        return refuse(which, place);
+                    }
+                    Taken::Fine(entries) => {
+                        got.entries = entries;
+                        w = next;
+                    }
+                }
+            }
+            Step::Half { role, start, len } => {
+                return take_half(s, role, start, len);
+            }
+            Step::Chunk { start, len, next } => {
+                let t = take_chunk(room, got, start, len);
+                match t {
+                    Taken::Refused { which, place } => {
+                        return refuse(which, place);
+                    }
+                    Taken::Fine(payload) => {
+                        got.payload = payload;
+                        w = next;
+                    }
+                }
+            }
+            Step::Quiet(next) => {
+                w = next;
+            }
+            Step::Done(ends) => {
+                return Judged {
+                    outcome: Outcome::Fine,
+                    found: got,
+                    ends,
+                };
+            }
+            Step::Refused { which, place } => {
+                return refuse(which, place);
+            }
+        }
+    }
+}
+
+// Where the layout ends. No contents are looked at.
+pub fn skip(s: &[u8], at: usize, major: u16, minor: u8, run: usize) -> Skipped
+    ensures { λ r. ⌜ skipped r ≡ skipOf (layoutPieces (version major minor) run (now (s .entry)) at) ⌝ }
+{
+    let mut w = walk::begin(major, minor, run, at);
+    loop {
+        let st = walk::next(s, w);
+        match st {
+            Step::Number {
+                slot: _,
+                value: _,
+                place: _,
+                next,
+            } => {
+                w = next;
+            }
+            Step::Text {
+                role: _,
+                start: _,
+                len: _,
+                next,
+            } => {
+                w = next;
+            }
+            Step::Half {
+                role: _,
+                start,
+                len,
+            } => {
+                return Skipped::Refused {
+                    which: CUT_SHORT,
+                    place: start + len,
+                };
+            }
+            Step::Chunk {
+                start: _,
+                len: _,
+                next,
+            } => {
+                w = next;
+            }
+            Step::Quiet(next) => {
+                w = next;
+            }
+            Step::Done(ends) => {
+                return Skipped::Past(ends);
+            }
+            Step::Refused { which, place } => {
+                return Skipped::Refused { which, place };
+            }
+        }
+    }
+}

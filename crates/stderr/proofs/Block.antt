@@ -1,0 +1,142 @@
+-- The answers of the loop, and of the error block behind it.
+use Prim.Native.Nat.{ℕ, _+_, _*_, _/_, _≤_}
+use mathlib.Core.Path.{_≡_, refl, sym, _∙_, ap}
+use mathlib.Core.List.{List, []}
+use mathlib.Core.Bool.{Bool, true, false}
+use lib.ListN.{length}
+use lib.Dec.{eqb}
+use borrow.Author.Tests.{eq-eqb, ne-eqb}
+use native.Mathlib.Omega.{arith}
+use Rattle.layouts.specs.declared.Record.{Record}
+use Rattle.layouts.specs.Primitive.{pick, version, Result, ok, refused, onward}
+use Rattle.layouts.specs.Shape.{Tree, layout}
+use Rattle.layouts.specs.Pieces.{Pieces, run, end}
+use Rattle.layouts.specs.Record.{blank}
+use Rattle.layouts.specs.Judge.{Ended, judgeOf, entriesOf, lentAfter}
+use Rattle.layouts.specs.Soft.{keptOf}
+use Rattle.layouts.specs.Calls.{Answer}
+use Rattle.layouts.specs.Stderr as L
+use Rattle.layouts.specs.Stderr.{Error, stoppedRecord, stderrLoop, stderrAnswer, ifError, errorBlock, readStderrLoop, readStderrWithError, errorPieces}
+use Rattle.layouts.proofs.Judge.{Read, judge-read, entries-length}
+use Rattle.table.specs.Packed.{errorBlockRun}
+use Rattle.table.specs.Table.{groupsAt}
+use Rattle.table.specs.Claims.{others}
+use Rattle.judge.specs.declared.Outcome.the-variants.{Fine, Refused}
+use Rattle.judge.specs.declared.Judged.{Judged}
+use Rattle.judge.specs.declared.Answer as C
+use Rattle.judge.specs.Judged.{judgedAs, answerAs}
+use Rattle.judge.proofs.Answers.{fine-ended, refused-ended}
+use Rattle.fill.specs.Fill.{Put}
+use Rattle.fill.proofs.Room.{put-all}
+use Rattle.stderr.specs.declared.Stopped.{Stopped}
+use Rattle.stderr.specs.declared.Stopped.the-variants as T
+use Rattle.stderr.specs.Loop.{stoppedAs, recordFor}
+
+-- ---- the error block
+abbrev answerOf : Result Ended → Result Answer
+answerOf o = onward o (λ e. stderrAnswer (e .ends) (e .found))
+
+block-at : (s : List ℕ) (at : ℕ) → run (layout (version 0 0) (groupsAt errorBlockRun)) s at ≡ run errorBlock s at
+block-at s at = ap (λ (t : Tree). run t s at) (sym (others .error))
+
+module _ (s : List ℕ) (at : ℕ) (r : Record) (entries : List ℕ) (a : Judged)
+    (j : a ≡ judgedAs (judgeOf s (length entries / 2) 0 r (run (layout (version 0 0) (groupsAt errorBlockRun)) s at))) where
+  abbrev said : Result Ended
+  said = judgeOf s (length entries / 2) 0 r (run errorBlock s at)
+
+  judged-is : a ≡ judgedAs said
+  judged-is = j ∙ ap (λ (p : Pieces). judgedAs (judgeOf s (length entries / 2) 0 r p)) (block-at s at)
+
+  module _ (which place stream : ℕ) (f : a .outcome ≡ Refused which place stream) where
+    block-refused-is : said ≡ refused which place stream
+    block-refused-is = refused-ended a said which place stream judged-is f
+
+    pub block-refused : _≡_ {A = C.Answer} (record { outcome = a .outcome; kind = 0; ends = 0; ends2 = 0; found = a .found }) (answerAs (answerOf said))
+    block-refused =
+        ap (λ (x : Judged). record { outcome = x .outcome; kind = 0; ends = 0; ends2 = 0; found = x .found }) (judged-is ∙ ap judgedAs block-refused-is) ∙
+        ap (λ (o : Result Ended). answerAs (answerOf o)) (sym block-refused-is)
+
+    pub block-kept : entries ≡ lentAfter said (entriesOf (run errorBlock s at)) entries
+    block-kept = ap (λ (o : Result Ended). lentAfter o (entriesOf (run errorBlock s at)) entries) (sym block-refused-is)
+
+  module _ (f : a .outcome ≡ Fine) where
+    block-fine-is : said ≡ ok (record { found = a .found; ends = a .ends })
+    block-fine-is = fine-ended a said judged-is f
+
+    pub block-fine : (x : C.Answer) → x ≡ answerAs (stderrAnswer (a .ends) (a .found)) → x ≡ answerAs (answerOf said)
+    block-fine x e = e ∙ ap (λ (o : Result Ended). answerAs (answerOf o)) (sym block-fine-is)
+
+    pub block-filled : (out : List ℕ) (k : ℕ) → r .entries ≡ 0 → r .payload ≡ 0 → Put entries 0 (entriesOf (run (layout (version 0 0) (groupsAt errorBlockRun)) s at)) out k
+        → out ≡ lentAfter said (entriesOf (run errorBlock s at)) entries
+    block-filled out k z y p =
+        let reads : Read (length entries / 2) 0 r (run errorBlock s at) (record { found = a .found; ends = a .ends }) =
+          judge-read s (length entries / 2) 0 r (run errorBlock s at) (record { found = a .found; ends = a .ends }) block-fine-is in
+        let f = reads .fits (omega arith) (omega arith) in
+        let l = entries-length (run errorBlock s at) in
+        let q : Put entries 0 (entriesOf (run errorBlock s at)) out k = rw (block-at s at) at p in
+        put-all entries (entriesOf (run errorBlock s at)) out k q (omega (arith, f)) ∙
+        ap (λ (o : Result Ended). lentAfter o (entriesOf (run errorBlock s at)) entries) (sym block-fine-is)
+
+-- ---- the loop's answers
+module _ (s : List ℕ) (l : Stopped) (e : stoppedAs l ≡ stderrLoop s) where
+  loop-as : (y : Stopped) → l ≡ y → stderrLoop s ≡ stoppedAs y
+  loop-as y q = sym e ∙ ap stoppedAs q
+
+  module _ (which place : ℕ) (q : l ≡ T.Refused which place) where
+    pub loop-refused : (x : C.Answer) → x ≡ answerAs (refused which place 0) → x ≡ answerAs (readStderrLoop s)
+    unfolding readStderrLoop
+    loop-refused x h = h ∙ ap (λ (o : Result L.Stopped). answerAs (onward o (λ x. stderrAnswer (x .ends) (stoppedRecord x)))) (sym (loop-as (T.Refused which place) q))
+
+    error-refused-is : (slots : ℕ) → readStderrWithError s slots ≡ refused which place 0
+    unfolding readStderrWithError
+    error-refused-is slots = rw (loop-as (T.Refused which place) q)
+
+    pub error-refused : (slots : ℕ) (x : C.Answer) → x ≡ answerAs (refused which place 0) → x ≡ answerAs (readStderrWithError s slots)
+    error-refused slots x h = h ∙ ap answerAs (sym (error-refused-is slots))
+
+    pub error-kept : (slots : ℕ) (new lent : List ℕ) → lent ≡ lentAfter (readStderrWithError s slots) new lent
+    error-kept slots new lent = ap (λ (o : Result Answer). lentAfter o new lent) (sym (error-refused-is slots))
+
+  module _ (m c n : ℕ) (q : l ≡ T.Stops m c n) (r : Record) (h : r ≡ recordFor m c) where
+    pub loop-stops : (x : C.Answer) → x ≡ answerAs (stderrAnswer n r) → x ≡ answerAs (readStderrLoop s)
+    unfolding readStderrLoop
+    loop-stops x p =
+        p ∙ ap (λ (y : Record). answerAs (stderrAnswer n y)) h ∙
+        ap (λ (o : Result L.Stopped). answerAs (onward o (λ x. stderrAnswer (x .ends) (stoppedRecord x)))) (sym (loop-as (T.Stops m c n) q))
+
+    module _ (slots : ℕ) where
+      by-code : (b : Bool) → eqb c Error ≡ b
+          → readStderrWithError s slots ≡ ifError b (record { messages = m; code = c; ends = n }) (λ u. judgeOf s slots 0 r (run errorBlock s n))
+      unfolding readStderrWithError
+      by-code b z = rw (loop-as (T.Stops m c n) q, z, h)
+
+      pieces-by : (b : Bool) → eqb c Error ≡ b → errorPieces s (stderrLoop s) ≡ pick b (run errorBlock s n) (end n)
+      unfolding errorPieces
+      pieces-by b z = rw (loop-as (T.Stops m c n) q, z)
+
+      pub error-block : (x : C.Answer) → c ≡ Error → x ≡ answerAs (answerOf (judgeOf s slots 0 r (run errorBlock s n))) → x ≡ answerAs (readStderrWithError s slots)
+      error-block x z p = p ∙ ap answerAs (sym (by-code true (eq-eqb c Error z)))
+
+      lent-answer : (o : Result Ended) (new lent : List ℕ) → lentAfter o new lent ≡ lentAfter (answerOf o) new lent
+      lent-answer (ok x) new lent = refl
+      lent-answer (refused which place stream) new lent = refl
+
+      pub error-filled : (lent out : List ℕ) → c ≡ Error → out ≡ lentAfter (judgeOf s slots 0 r (run errorBlock s n)) (entriesOf (run errorBlock s n)) lent
+          → out ≡ lentAfter (readStderrWithError s slots) (entriesOf (errorPieces s (stderrLoop s))) lent
+      error-filled lent out z p =
+          p ∙ lent-answer (judgeOf s slots 0 r (run errorBlock s n)) (entriesOf (run errorBlock s n)) lent ∙
+          ap (λ (o : Result Answer). lentAfter o (entriesOf (run errorBlock s n)) lent) (sym (by-code true (eq-eqb c Error z))) ∙
+          ap (λ (y : Pieces). lentAfter (readStderrWithError s slots) (entriesOf y) lent) (sym (pieces-by true (eq-eqb c Error z)))
+
+      module _ (z : c ≡ Error → ⊥) where
+        no-error-is : readStderrWithError s slots ≡ stderrAnswer n r
+        no-error-is = by-code false (ne-eqb c Error z) ∙ ap (stderrAnswer n) (sym h)
+
+        pub no-error : (x : C.Answer) → x ≡ answerAs (stderrAnswer n r) → x ≡ answerAs (readStderrWithError s slots)
+        no-error x p = p ∙ ap answerAs (sym no-error-is)
+
+        pub no-entries : (lent : List ℕ) → lent ≡ lentAfter (readStderrWithError s slots) (entriesOf (errorPieces s (stderrLoop s))) lent
+        unfolding entriesOf
+        no-entries lent =
+            ap (λ (o : Result Answer). lentAfter o [] lent) (sym no-error-is) ∙
+            ap (λ (y : Pieces). lentAfter (readStderrWithError s slots) (entriesOf y) lent) (sym (pieces-by false (ne-eqb c Error z)))

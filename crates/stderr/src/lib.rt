@@ -1,0 +1,220 @@
+// The stderr loop: the messages that a daemon sends before its reply, with and without the error block. Names are those of nix-wire's protocol.rs.
+ghost use mathlib.Core.Path.{_≡_};
+ghost use Prim.Native.Nat.{_/_};
+ghost use lib.ListN.{length};
+ghost use Rattle.layouts.specs.Primitive.{refused, onward};
+ghost use Rattle.layouts.specs.Pieces.{run};
+ghost use Rattle.layouts.specs.Judge.{judgeOf, entriesOf, lentAfter};
+ghost use Rattle.layouts.specs.Stderr.{messageOf, errorBlock, stderrLoop, stderrAnswer, readStderrLoop, readStderrWithError, errorPieces};
+ghost use Rattle.codes.specs.Stderr.{codeNumber};
+ghost use Rattle.judge.specs.Judged.{answerAs};
+ghost use Rattle.stderr.specs.Loop.{said, stoppedAs, recordFor};
+use codes::stderr::StderrCode;
+use codes::stderr::StderrFound;
+use judge::Answer;
+use judge::Outcome;
+use judge::Skipped;
+use layouts::Record;
+use wire::Cursor;
+use wire::Peeked;
+
+// What a number at the place of a code says: no code; a terminal one; one that the layout at a run follows.
+enum Message {
+    NoCode,
+    Terminal,
+    Goes(usize),
+}
+
+// How many messages, the terminal code or 0, and where the loop stops.
+enum Stopped {
+    Stops {
+        messages: u64,
+        code: u64,
+        ends: usize,
+    },
+    Refused {
+        which: u64,
+        place: usize,
+    },
+}
+
+fn message_of(code: StderrCode) -> Message
+    ensures { λ r. ⌜ said r ≡ messageOf (codeNumber code) ⌝ }
+{
+    match code {
+        StderrCode::Next => Message::Goes(table::STRING_MESSAGE),
+        StderrCode::Write => Message::Goes(table::STRING_MESSAGE),
+        StderrCode::Read => Message::Goes(table::NUMBER_MESSAGE),
+        StderrCode::StopActivity => Message::Goes(table::NUMBER_MESSAGE),
+        StderrCode::StartActivity => Message::Goes(table::START_ACTIVITY),
+        StderrCode::Result => Message::Goes(table::RESULT_MESSAGE),
+        StderrCode::Last => Message::Terminal,
+        StderrCode::Error => Message::Terminal,
+    }
+}
+
+fn find_message(c: u64) -> Message
+    ensures { λ r. ⌜ said r ≡ messageOf c ⌝ }
+{
+    let f = StderrCode::from_u64(c);
+    match f {
+        StderrFound::Code(code) => message_of(code),
+        StderrFound::None => Message::NoCode,
+    }
+}
+
+// A number that is no code, or is cut short, is not consumed: the reply may begin there.
+fn stderr_loop(s: &[u8]) -> Stopped
+    ensures { λ r. ⌜ stoppedAs r ≡ stderrLoop (now (s .entry)) ⌝ }
+{
+    let mut at: usize = 0;
+    let mut messages: u64 = 0;
+    loop {
+        let here = Cursor { at };
+        let p = here.peek_u64(s);
+        match p {
+            Peeked::None => {
+                return Stopped::Stops {
+                    messages,
+                    code: 0,
+                    ends: at,
+                };
+            }
+            Peeked::Some(c) => {
+                let m = find_message(c);
+                match m {
+                    Message::NoCode => {
+                        return Stopped::Stops {
+                            messages,
+                            code: 0,
+                            ends: at,
+                        };
+                    }
+                    Message::Terminal => {
+                        let count = messages + 1;
+                        let ends = at + 8;
+                        return Stopped::Stops {
+                            messages: count,
+                            code: c,
+                            ends,
+                        };
+                    }
+                    Message::Goes(run) => {
+                        let body = at + 8;
+                        let k = judge::skip(s, body, 0, 0, run);
+                        match k {
+                            Skipped::Refused { which, place } => {
+                                return Stopped::Refused { which, place };
+                            }
+                            Skipped::Past(next) => {
+                                at = next;
+                                messages = messages + 1;
+                            }
+                        }
+                    }
+                }
+            }
+        }
+    }
+}
+
+fn stopped_record(messages: u64, code: u64) -> Record
+    ensures { λ r. ⌜ r ≡ recordFor messages code ⌝ }
+{
+    let mut r = judge::empty();
+    r.numbers[0] = messages;
+    r.numbers[1] = code;
+    r
+}
+
+fn answer(ends: usize, found: Record) -> Answer
+    ensures { λ r. ⌜ r ≡ answerAs (stderrAnswer ends found) ⌝ }
+{
+    Answer {
+        outcome: Outcome::Fine,
+        kind: 0,
+        ends,
+        ends2: 0,
+        found,
+    }
+}
+
+fn refuse(which: u64, place: usize) -> Answer
+    ensures { λ r. ⌜ r ≡ answerAs (refused which place 0) ⌝ }
+{
+    Answer {
+        outcome: Outcome::Refused {
+            which,
+            place,
+            stream: 0,
+        },
+        kind: 0,
+        ends: 0,
+        ends2: 0,
+        found: judge::empty(),
+    }
+}
+
+pub fn read_stderr_loop(s: &[u8]) -> Answer
+    ensures { λ r. ⌜ r ≡ answerAs (readStderrLoop (now (s .entry))) ⌝ }
+{
+    let l = stderr_loop(s);
+    match l {
+        Stopped::Refused { which, place } => refuse(which, place),
+        Stopped::Stops {
+            messages,
+            code,
+            ends,
+        } => answer(ends, stopped_record(messages, code)),
+    }
+}
+
+// The error block from a place on, with the record so far.
+fn read_error_block(s: &[u8], at: usize, sofar: Record, entries: &mut [u64]) -> Answer
+    requires { ⌜ (sofar .entries ≡ 0) × (sofar .payload ≡ 0) ⌝ }
+    ensures answer { λ r. ⌜ r ≡ answerAs (onward (judgeOf (now (s .entry)) (length (now (entries .entry)) / 2) 0 sofar (run errorBlock (now (s .entry)) at)) (λ e. stderrAnswer (e .ends) (e .found))) ⌝ }
+    ensures entries { λ r. ⌜ now (entries .exit) ≡ lentAfter (judgeOf (now (s .entry)) (length (now (entries .entry)) / 2) 0 sofar (run errorBlock (now (s .entry)) at)) (entriesOf (run errorBlock (now (s .entry)) at)) (now (entries .entry)) ⌝ }
+{
+    let slots = entries.len() / 2;
+    let a = judge::judge(s, at, 0, 0, table::ERROR_BLOCK_RUN, slots, 0, sofar);
+    let found = a.found;
+    let o = a.outcome;
+    match o {
+        Outcome::Refused {
+            which: _,
+            place: _,
+            stream: _,
+        } => Answer {
+            outcome: o,
+            kind: 0,
+            ends: 0,
+            ends2: 0,
+            found,
+        },
+        Outcome::Fine => {
+            fill::fill_entries(s, at, 0, 0, table::ERROR_BLOCK_RUN, entries, 0);
+            answer(a.ends, found)
+        }
+    }
+}
+
+pub fn read_stderr_with_error(s: &[u8], entries: &mut [u64]) -> Answer
+    ensures answer { λ r. ⌜ r ≡ answerAs (readStderrWithError (now (s .entry)) (length (now (entries .entry)) / 2)) ⌝ }
+    ensures entries { λ r. ⌜ now (entries .exit) ≡ lentAfter (readStderrWithError (now (s .entry)) (length (now (entries .entry)) / 2)) (entriesOf (errorPieces (now (s .entry)) (stderrLoop (now (s .entry))))) (now (entries .entry)) ⌝ }
+{
+    let l = stderr_loop(s);
+    match l {
+        Stopped::Refused { which, place } => refuse(which, place),
+        Stopped::Stops {
+            messages,
+            code,
+            ends,
+        } => {
+            let r = stopped_record(messages, code);
+            if code == StderrCode::Error.number() {
+                return read_error_block(s, ends, r, entries);
+            }
+            answer(ends, r)
+        }
+    }
+}
