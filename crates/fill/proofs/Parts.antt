@@ -1,17 +1,13 @@
 -- The pieces one by one: what is kept of the rest is what is kept of the whole.
-use Prim.Native.Nat.{ℕ, suc, zero, _+_, _≤_, _<_}
-use mathlib.Core.Path.{_≡_, refl, sym, _∙_, ap, subst}
+use Prim.Native.Nat.{ℕ, _≤_, _<_}
+use mathlib.Core.Path.{_≡_, _∙_, ap, subst}
 use mathlib.Core.List.{List, [], _∷_, _++_}
-use native.Mathlib.Omega.{arith}
-use lib.ListN.{length, take, drop}
-use Rattle.layouts.specs.Pieces.{Pieces, number, text, half, chunk, end, fault}
-use Rattle.layouts.specs.Record.{isKept}
+use lib.ListN.{take, drop}
 use Rattle.layouts.specs.Judge.{entry, entriesOf, payloadOf}
-use Rattle.table.specs.Table.{roleOf}
 use Rattle.walk.specs.declared.Walk.{Walk}
 use Rattle.walk.specs.declared.Step.{Step}
 use Rattle.walk.specs.declared.Step.the-variants as Steps
-use Rattle.walk.specs.Walk.{rest, shown, fuel}
+use Rattle.walk.specs.Walk.{rest, shown}
 use Rattle.table.proofs.Roles.{kept-from, kept-below}
 use Rattle.fill.specs.declared.Found.{Found}
 use Rattle.fill.specs.Fill.{FoundFalls}

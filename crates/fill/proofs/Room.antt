@@ -48,10 +48,10 @@ module _ (l : List ℕ) (i : ℕ) where
       record {
         size = z;
         then = λ ws.
-          sets-past m (length l) ws (omega arith) ∙
-          sym
-          (ap (sets l i) (append-assoc vs us ws) ∙ sets-join l i vs (us ++ ws) ∙ ap (λ (x : List ℕ). sets x (i + length vs) (us ++ ws)) (sym q) ∙
-          sets-past m (i + length vs) (us ++ ws) (omega arith));
+            sets-past m (length l) ws (omega arith) ∙
+            sym
+            (ap (sets l i) (append-assoc vs us ws) ∙ sets-join l i vs (us ++ ws) ∙ ap (λ (x : List ℕ). sets x (i + length vs) (us ++ ws)) (sym q) ∙
+            sets-past m (i + length vs) (us ++ ws) (omega arith));
       }
 
 pub part-length : (s : List ℕ) (start len : ℕ) → start + len ≤ length s → length (take len (drop start s)) ≡ len

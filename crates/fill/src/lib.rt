@@ -200,14 +200,7 @@ fn put_chunk(s: &[u8], start: usize, len: usize, out: &mut [u8], filled: usize) 
 }
 
 // The chunks, joined, at the start of the room, and the place after them.
-pub fn join_payload(
-    s: &[u8],
-    at: usize,
-    major: u16,
-    minor: u8,
-    run: usize,
-    out: &mut [u8],
-) -> usize
+pub fn join_payload(s: &[u8], at: usize, major: u16, minor: u8, run: usize, out: &mut [u8]) -> usize
     ensures { λ r. ⌜ Put (now (out .entry)) 0 (payloadOf (now (s .entry)) (layoutPieces (version major minor) run (now (s .entry)) at)) (now (out .exit)) r ⌝ }
 {
     let mut w = walk::begin(major, minor, run, at);

@@ -1,6 +1,6 @@
 -- For a caller of `judge` that has matched on its outcome.
 use Prim.Native.Nat.{ℕ}
-use mathlib.Core.Path.{_≡_, refl, sym, _∙_, ap}
+use mathlib.Core.Path.{_≡_, sym, _∙_, ap}
 use native.Mathlib.Omega.{arith}
 use Rattle.layouts.specs.Primitive.{Result, ok, refused}
 use Rattle.layouts.specs.Judge.{Ended}

@@ -1,11 +1,10 @@
 -- The pieces one by one: what remains is judged, and skipped, as the whole.
 use Prim.Native.Nat.{ℕ, _+_}
-use mathlib.Core.Path.{_≡_, refl, sym, _∙_, ap}
+use mathlib.Core.Path.{_≡_, sym, _∙_, ap}
 use mathlib.Core.List.{List}
 use Rattle.layouts.specs.declared.Record.{Record}
 use Rattle.layouts.specs.Primitive.{Result, ok, refused, onward}
-use Rattle.layouts.specs.Shape.{Slot, Role}
-use Rattle.layouts.specs.Pieces.{Pieces, number, text, half, chunk, end, fault, skipOf}
+use Rattle.layouts.specs.Pieces.{skipOf}
 use Rattle.layouts.specs.Record.{noted, withEntries, withPayload}
 use Rattle.layouts.specs.Judge.{Ended, textTaken, halfTaken, chunkTaken, judgeOf}
 use Rattle.table.specs.Table.{roleOf, slotOf}

@@ -1,14 +1,12 @@
 -- What a string or a chunk is taken for, in each case.
 use Prim.Native.Nat.{ℕ, _+_, _-_, _≤_, _<_}
-use mathlib.Core.Path.{_≡_, refl, sym, _∙_, ap}
+use mathlib.Core.Path.{_≡_, ap}
 use mathlib.Core.List.{List}
 use mathlib.Core.Bool.{Bool, true, false, not}
-use lib.ListN.{length, take, drop}
-use lib.Dec.{leb}
+use lib.ListN.{take, drop}
 use borrow.Author.Tests.{le-leb, lt-leb}
 use native.Mathlib.Omega.{arith}
 use Rattle.text.specs.Rfc3629.{Judged}
-use Rattle.text.specs.Prefix.{isText}
 use Rattle.text.proofs.Meaning.{judged-is}
 use Rattle.layouts.specs.declared.Record.{Record}
 use Rattle.layouts.specs.Primitive.{Result, ok, refused}

@@ -1,15 +1,15 @@
 -- A judged layout, filled: what it reports fits, and is what `layouts` says of lent memory.
-use Prim.Native.Nat.{ℕ, zero, suc, _+_, _*_, _/_, _≤_, _<_}
+use Prim.Native.Nat.{ℕ, _+_, _/_, _≤_}
 use mathlib.Core.Path.{_≡_, refl, sym, _∙_, ap}
-use mathlib.Core.List.{List, [], _∷_, _++_}
+use mathlib.Core.List.{List, [], _∷_}
 use mathlib.Core.Bool.{Bool}
 use native.Mathlib.Omega.{arith}
-use lib.ListN.{length, drop}
+use lib.ListN.{length}
 use Rattle.layouts.specs.declared.Record.{Record}
-use Rattle.layouts.specs.Primitive.{Version, Result, ok, refused, onward}
+use Rattle.layouts.specs.Primitive.{Version, Result, ok, refused}
 use Rattle.layouts.specs.Shape.{Tree}
-use Rattle.layouts.specs.Pieces.{Pieces, run, totalOf}
-use Rattle.layouts.specs.Record.{blank, recordOf}
+use Rattle.layouts.specs.Pieces.{run, totalOf}
+use Rattle.layouts.specs.Record.{blank}
 use Rattle.layouts.specs.Judge.{Ended, judgeOf, entriesOf, payloadOf, lentAfter}
 use Rattle.layouts.specs.Soft.{keptOf}
 use Rattle.layouts.specs.Operations.{Kinds, kindOf}

@@ -1,5 +1,5 @@
 -- The calls by operation: what the row of the table says is what `layouts` says, and an unknown number is refused.
-use Prim.Native.Nat.{ℕ, zero, suc, _/_}
+use Prim.Native.Nat.{ℕ}
 use mathlib.Core.Path.{_≡_, refl, sym, _∙_, ap}
 use mathlib.Core.List.{List, [], _∷_, _++_}
 use mathlib.Core.Bool.{Bool}
@@ -8,11 +8,10 @@ use Rattle.layouts.specs.Primitive.{Version, Result, ok, refused}
 use Rattle.layouts.specs.Shape.{Tree, fail, layout, Group}
 use Rattle.layouts.specs.Pieces.{run, skipOf}
 use Rattle.layouts.specs.Record.{blank}
-use Rattle.layouts.specs.Judge.{Ended, judgeOf, entriesOf, payloadOf, lentAfter}
+use Rattle.layouts.specs.Judge.{judgeOf, entriesOf, payloadOf, lentAfter}
 use Rattle.layouts.specs.Operations.{Kinds, kindOf}
 use Rattle.layouts.specs.Calls.{Answer, answered, readOf, entriesAfter, payloadAfter}
 use Rattle.table.specs.Table.{kindNumbered}
-use Rattle.judge.specs.declared.Outcome.{Outcome}
 use Rattle.judge.specs.declared.Answer as C
 use Rattle.judge.specs.Judged.{answerAs}
 use Rattle.protocol.specs.declared.Arguments.{Arguments}

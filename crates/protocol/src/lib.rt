@@ -80,7 +80,16 @@ fn read(
     ensures payload { λ r. ⌜ now (payload .exit) ≡ lentAfter (judgeOf (now (s .entry)) (length (now (entries .entry)) / 2) (length (now (payload .entry))) blank (layoutPieces (version major minor) run (now (s .entry)) 0)) (payloadOf (now (s .entry)) (layoutPieces (version major minor) run (now (s .entry)) 0)) (now (payload .entry)) ⌝ }
 {
     let slots = entries.len() / 2;
-    let a = judge::judge(s, 0, major, minor, run, slots, payload.len(), judge::empty());
+    let a = judge::judge(
+        s,
+        0,
+        major,
+        minor,
+        run,
+        slots,
+        payload.len(),
+        judge::empty(),
+    );
     let found = a.found;
     let o = a.outcome;
     match o {
@@ -125,7 +134,15 @@ pub fn read_op_args(
     let f = table::find(op);
     match f {
         Found::Unknown => refuse(UNKNOWN_OPERATION),
-        Found::Row(row) => read(s, major, minor, row.arguments, row.arguments_kind, entries, payload),
+        Found::Row(row) => read(
+            s,
+            major,
+            minor,
+            row.arguments,
+            row.arguments_kind,
+            entries,
+            payload,
+        ),
     }
 }
 
@@ -150,7 +167,15 @@ pub fn skip_op_args(op: u64, major: u16, minor: u8, s: &[u8]) -> Arguments
         },
         Found::Row(row) => {
             let mut nothing: [u8; 0] = [];
-            let a = read(s, major, minor, row.skipped, row.skipped_kind, &mut entry, &mut nothing);
+            let a = read(
+                s,
+                major,
+                minor,
+                row.skipped,
+                row.skipped_kind,
+                &mut entry,
+                &mut nothing,
+            );
             let o = a.outcome;
             let found = a.found;
             Arguments {

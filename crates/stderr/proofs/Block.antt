@@ -1,5 +1,5 @@
 -- The answers of the loop, and of the error block behind it.
-use Prim.Native.Nat.{ℕ, _+_, _*_, _/_, _≤_}
+use Prim.Native.Nat.{ℕ, _/_}
 use mathlib.Core.Path.{_≡_, refl, sym, _∙_, ap}
 use mathlib.Core.List.{List, []}
 use mathlib.Core.Bool.{Bool, true, false}
@@ -11,9 +11,7 @@ use Rattle.layouts.specs.declared.Record.{Record}
 use Rattle.layouts.specs.Primitive.{pick, version, Result, ok, refused, onward}
 use Rattle.layouts.specs.Shape.{Tree, layout}
 use Rattle.layouts.specs.Pieces.{Pieces, run, end}
-use Rattle.layouts.specs.Record.{blank}
 use Rattle.layouts.specs.Judge.{Ended, judgeOf, entriesOf, lentAfter}
-use Rattle.layouts.specs.Soft.{keptOf}
 use Rattle.layouts.specs.Calls.{Answer}
 use Rattle.layouts.specs.Stderr as L
 use Rattle.layouts.specs.Stderr.{Error, stoppedRecord, stderrLoop, stderrAnswer, ifError, errorBlock, readStderrLoop, readStderrWithError, errorPieces}
@@ -70,7 +68,7 @@ module _ (s : List ℕ) (at : ℕ) (r : Record) (entries : List ℕ) (a : Judged
         → out ≡ lentAfter said (entriesOf (run errorBlock s at)) entries
     block-filled out k z y p =
         let reads : Read (length entries / 2) 0 r (run errorBlock s at) (record { found = a .found; ends = a .ends }) =
-          judge-read s (length entries / 2) 0 r (run errorBlock s at) (record { found = a .found; ends = a .ends }) block-fine-is in
+        judge-read s (length entries / 2) 0 r (run errorBlock s at) (record { found = a .found; ends = a .ends }) block-fine-is in
         let f = reads .fits (omega arith) (omega arith) in
         let l = entries-length (run errorBlock s at) in
         let q : Put entries 0 (entriesOf (run errorBlock s at)) out k = rw (block-at s at) at p in

@@ -1,5 +1,5 @@
 -- The loop, turn by turn: what is still to come is what the whole is.
-use Prim.Native.Nat.{ℕ, zero, suc, _+_, _≤_, _<_}
+use Prim.Native.Nat.{ℕ, suc, _+_, _≤_, _<_}
 use mathlib.Core.Path.{_≡_, refl, sym, _∙_, ap, subst}
 use mathlib.Core.List.{List}
 use mathlib.Core.Bool.{Bool, true, false}
@@ -7,12 +7,12 @@ use lib.ListN.{length}
 use lib.Dec.{leb}
 use borrow.Author.Tests.{le-leb, lt-leb}
 use native.Mathlib.Omega.{arith}
-use Rattle.layouts.specs.Primitive.{numberAt, version, Result, ok, refused, onward}
-use Rattle.layouts.specs.Shape.{layout, Group}
+use Rattle.layouts.specs.Primitive.{numberAt, version, Result, refused, onward}
+use Rattle.layouts.specs.Shape.{layout}
 use Rattle.layouts.specs.Pieces.{Num, value, short, run, skipOf}
 use Rattle.layouts.specs.Calls.{peekNumber}
 use Rattle.layouts.specs.Stderr as L
-use Rattle.layouts.specs.Stderr.{noCode, terminal, goes, messageOf, afterPeek, stderrFrom, stderrLoop, stopped}
+use Rattle.layouts.specs.Stderr.{noCode, terminal, messageOf, afterPeek, stderrFrom, stderrLoop, stopped}
 use Rattle.layouts.proofs.Views.{NumView, is-value, is-short, num-view}
 use Rattle.layouts.proofs.Placed.{run-placed, ends}
 use Rattle.layouts.proofs.Stderr.{any-bound}

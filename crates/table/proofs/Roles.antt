@@ -25,4 +25,3 @@ unfolding roleOf
 decoded-some zero h = absurd (h refl)
 decoded-some (suc zero) h = refl
 decoded-some (suc (suc role)) h = rw (ne-eqb (suc (suc role)) 0 (λ e. omega arith), ne-eqb (suc (suc role)) 1 (λ e. omega arith))
-

@@ -1,8 +1,7 @@
+-- `fill::fill_entries` meets its contract: what is written and what is to come are the entries of the whole.
 use borrow.Author.Needs.{needs}
 use Rattle.fill.proofs.fill_entries.Statement.{statement}
 use Rattle.fill.proofs.fill_entries.Tie as tie
-use Rattle.fill.proofs.fill_entries.Reads as reads
-use Rattle.fill.proofs.fill_entries.Lts as lts
 use denote.Ref.{now}
 use mathlib.Core.Path.{_∙_, ap}
 use mathlib.Core.List.{[], _∷_}
@@ -19,21 +18,6 @@ Inv-loop s at major minor run out₀ from w₀ n₀ out w n = Filling out₀ fro
 abbrev μ-loop : tie.MeasureT-loop
 μ-loop s at major minor run out₀ from w₀ n₀ out w n = fuel s w
 
-loop-holds : tie.Need-loop-holds Inv-loop μ-loop
-loop-holds c = filling-start _ _ _ _ (ap entriesOf (c .begin .ensures (now (c .before .before .before .args .s))))
-
-same-length : tie.Need-same-length Inv-loop μ-loop
-same-length c = c .before .before .before .loop .inv .size
-
-returns : tie.Need-returns Inv-loop μ-loop
-returns c = filling-end _ _ _ _ _ _ (c .before .before .before .loop .inv) (c .before .before .next-kept .ensures .0 ∙ ap (keptOf (now (c .before .before .before .before .before .before .before .args .s))) (c .enum-told .given .1))
-
-loop-less : tie.Need-loop-less Inv-loop μ-loop
-loop-less c = found-falls (now (c .before .before .before .before .before .before .before .before .before .before .before .before .args .s)) (fuel (now (c .before .before .before .before .before .before .before .before .before .before .before .before .args .s)) (c .before .before .before .before .before .before .before .before .loop .w)) (c .before .before .before .before .before .before .before .next-kept .result) _ (c .before .before .before .before .before .e .given .1) (c .before .before .before .before .before .before .before .next-kept .ensures .1) .0
-
-loop-again : tie.Need-loop-again Inv-loop μ-loop
-loop-again c = filling-put _ _ _ _ _ _ (c .before .before .before .before .before .before .before .before .loop .inv) (c .before .before .before .before .before .e .given .0 .0 ∷ c .before .before .before .before .before .e .given .0 .1 .0 ∷ []) _ _ _ (c .before .before .before .before .before .before .before .next-kept .ensures .0 ∙ ap (keptOf (now (c .before .before .before .before .before .before .before .before .before .before .before .before .args .s))) (c .before .before .before .before .before .e .given .1)) (c .before .before .put-entry .ensures)
-
 pub fill-entries-spec : {M : Type 1} → statement M
 fill-entries-spec =
     tie.close
@@ -41,12 +25,12 @@ fill-entries-spec =
     Inv-loop
     μ-loop
     (λ c κs. search needs)
-    loop-holds
+    (λ c. filling-start _ _ _ _ (ap entriesOf (c .begin .ensures (now (c .before .before .before .args .s)))))
     (λ c κs. search needs)
     (λ c. search needs)
-    same-length
-    returns
+    (λ c. c .before .before .before .loop .inv .size)
+    (λ c. filling-end _ _ _ _ _ _ (c .before .before .before .loop .inv) (c .before .before .next-kept .ensures .0 ∙ ap (keptOf (now (c .before .before .before .before .before .before .before .args .s))) (c .enum-told .given .1)))
     (λ c. search needs)
     (λ c κs. search needs)
-    loop-less
-    loop-again)
+    (λ c. found-falls (now (c .before .before .before .before .before .before .before .before .before .before .before .before .args .s)) (fuel (now (c .before .before .before .before .before .before .before .before .before .before .before .before .args .s)) (c .before .before .before .before .before .before .before .before .loop .w)) (c .before .before .before .before .before .before .before .next-kept .result) _ (c .before .before .before .before .before .e .given .1) (c .before .before .before .before .before .before .before .next-kept .ensures .1) .0)
+    (λ c. filling-put _ _ _ _ _ _ (c .before .before .before .before .before .before .before .before .loop .inv) (c .before .before .before .before .before .e .given .0 .0 ∷ c .before .before .before .before .before .e .given .0 .1 .0 ∷ []) _ _ _ (c .before .before .before .before .before .before .before .next-kept .ensures .0 ∙ ap (keptOf (now (c .before .before .before .before .before .before .before .before .before .before .before .before .args .s))) (c .before .before .before .before .before .e .given .1)) (c .before .before .put-entry .ensures)))

@@ -1,8 +1,7 @@
+-- `fill::join_payload` meets its contract: what is written and what is to come are the payload of the whole.
 use borrow.Author.Needs.{needs}
 use Rattle.fill.proofs.join_payload.Statement.{statement}
 use Rattle.fill.proofs.join_payload.Tie as tie
-use Rattle.fill.proofs.join_payload.Reads as reads
-use Rattle.fill.proofs.join_payload.Lts as lts
 use denote.Ref.{now}
 use mathlib.Core.Path.{_∙_, ap}
 use lib.ListN.{take, drop}
@@ -19,24 +18,6 @@ Inv-loop s at major minor run out₀ w₀ filled₀ out w filled = Filling out�
 abbrev μ-loop : tie.MeasureT-loop
 μ-loop s at major minor run out₀ w₀ filled₀ out w filled = fuel s w
 
-loop-holds : tie.Need-loop-holds Inv-loop μ-loop
-loop-holds c = filling-start _ _ _ _ (ap (payloadOf (now (c .before .before .before .args .s))) (c .begin .ensures (now (c .before .before .before .args .s))))
-
-same-length : tie.Need-same-length Inv-loop μ-loop
-same-length c = c .before .before .before .loop .inv .size
-
-returns : tie.Need-returns Inv-loop μ-loop
-returns c = filling-end _ _ _ _ _ _ (c .before .before .before .loop .inv) (c .before .before .next-chunk .ensures .0 ∙ ap (chunkedOf (now (c .before .before .before .before .before .before .before .args .s))) (c .enum-told .given .1))
-
-put-chunk-requires : tie.Need-put-chunk-requires Inv-loop μ-loop
-put-chunk-requires c κs = found-falls (now (c .before .before .before .before .before .before .before .before .before .args .s)) (fuel (now (c .before .before .before .before .before .before .before .before .before .args .s)) (c .before .before .before .before .before .loop .w)) (c .before .before .before .before .next-chunk .result) _ (c .before .before .e .given .1) (c .before .before .before .before .next-chunk .ensures .1) .1
-
-loop-less : tie.Need-loop-less Inv-loop μ-loop
-loop-less c = found-falls (now (c .before .before .before .before .before .before .before .before .before .before .before .before .args .s)) (fuel (now (c .before .before .before .before .before .before .before .before .before .before .before .before .args .s)) (c .before .before .before .before .before .before .before .before .loop .w)) (c .before .before .before .before .before .before .before .next-chunk .result) _ (c .before .before .before .before .before .e .given .1) (c .before .before .before .before .before .before .before .next-chunk .ensures .1) .0
-
-loop-again : tie.Need-loop-again Inv-loop μ-loop
-loop-again c = filling-put _ _ _ _ _ _ (c .before .before .before .before .before .before .before .before .loop .inv) (take (c .before .before .before .before .before .e .given .0 .1 .0) (drop (c .before .before .before .before .before .e .given .0 .0) (now (c .before .before .before .before .before .before .before .before .before .before .before .before .args .s)))) _ _ _ (c .before .before .before .before .before .before .before .next-chunk .ensures .0 ∙ ap (chunkedOf (now (c .before .before .before .before .before .before .before .before .before .before .before .before .args .s))) (c .before .before .before .before .before .e .given .1)) (c .before .before .put-chunk .ensures)
-
 pub join-payload-spec : {M : Type 1} → statement M
 join-payload-spec =
     tie.close
@@ -44,12 +25,12 @@ join-payload-spec =
     Inv-loop
     μ-loop
     (λ c κs. search needs)
-    loop-holds
+    (λ c. filling-start _ _ _ _ (ap (payloadOf (now (c .before .before .before .args .s))) (c .begin .ensures (now (c .before .before .before .args .s)))))
     (λ c κs. search needs)
     (λ c. search needs)
-    same-length
-    returns
+    (λ c. c .before .before .before .loop .inv .size)
+    (λ c. filling-end _ _ _ _ _ _ (c .before .before .before .loop .inv) (c .before .before .next-chunk .ensures .0 ∙ ap (chunkedOf (now (c .before .before .before .before .before .before .before .args .s))) (c .enum-told .given .1)))
     (λ c. search needs)
-    put-chunk-requires
-    loop-less
-    loop-again)
+    (λ c κs. found-falls (now (c .before .before .before .before .before .before .before .before .before .args .s)) (fuel (now (c .before .before .before .before .before .before .before .before .before .args .s)) (c .before .before .before .before .before .loop .w)) (c .before .before .before .before .next-chunk .result) _ (c .before .before .e .given .1) (c .before .before .before .before .next-chunk .ensures .1) .1)
+    (λ c. found-falls (now (c .before .before .before .before .before .before .before .before .before .before .before .before .args .s)) (fuel (now (c .before .before .before .before .before .before .before .before .before .before .before .before .args .s)) (c .before .before .before .before .before .before .before .before .loop .w)) (c .before .before .before .before .before .before .before .next-chunk .result) _ (c .before .before .before .before .before .e .given .1) (c .before .before .before .before .before .before .before .next-chunk .ensures .1) .0)
+    (λ c. filling-put _ _ _ _ _ _ (c .before .before .before .before .before .before .before .before .loop .inv) (take (c .before .before .before .before .before .e .given .0 .1 .0) (drop (c .before .before .before .before .before .e .given .0 .0) (now (c .before .before .before .before .before .before .before .before .before .before .before .before .args .s)))) _ _ _ (c .before .before .before .before .before .before .before .next-chunk .ensures .0 ∙ ap (chunkedOf (now (c .before .before .before .before .before .before .before .before .before .before .before .before .args .s))) (c .before .before .before .before .before .e .given .1)) (c .before .before .put-chunk .ensures)))

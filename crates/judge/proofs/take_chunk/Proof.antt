@@ -1,26 +1,16 @@
+-- `judge::take_chunk` meets its contract: no sum is made before it is known to fit.
 use borrow.Author.Needs.{needs}
 use Rattle.judge.proofs.take_chunk.Statement.{statement}
 use Rattle.judge.proofs.take_chunk.Tie as tie
-use Rattle.judge.proofs.take_chunk.Reads as reads
-use Rattle.judge.proofs.take_chunk.Lts as lts
 use native.Mathlib.Omega.{arith}
 use Rattle.judge.proofs.Pieces.{chunk-full, chunk-fits}
-
-returns : tie.Need-returns
-returns c = chunk-full _ _ _ _ _ (c .before .place-of .ensures) (omega arith)
-
-returns-2 : tie.Need-returns-2
-returns-2 c = chunk-full _ _ _ _ _ (c .before .before .place-of .ensures) (omega arith)
-
-returns-3 : tie.Need-returns-3
-returns-3 c = chunk-fits _ _ _ _ (omega arith)
 
 pub take-chunk-spec : {M : Type 1} → statement M
 take-chunk-spec =
     tie.close
     (tie.spec
     (λ c κs. search needs)
-    returns
-    returns-2
+    (λ c. chunk-full _ _ _ _ _ (c .before .place-of .ensures) (omega arith))
+    (λ c. chunk-full _ _ _ _ _ (c .before .before .place-of .ensures) (omega arith))
     (λ c. search needs)
-    returns-3)
+    (λ c. chunk-fits _ _ _ _ (omega arith)))

@@ -1,8 +1,7 @@
+-- `protocol::read_daemon_result` meets its contract: by the row of the operation.
 use borrow.Author.Needs.{needs}
 use Rattle.protocol.proofs.read_daemon_result.Statement.{statement}
 use Rattle.protocol.proofs.read_daemon_result.Tie as tie
-use Rattle.protocol.proofs.read_daemon_result.Reads as reads
-use Rattle.protocol.proofs.read_daemon_result.Lts as lts
 use denote.Ref.{now}
 use Prim.Native.Nat.{_/_}
 use lib.ListN.{length}

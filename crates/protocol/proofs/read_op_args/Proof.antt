@@ -1,8 +1,7 @@
+-- `protocol::read_op_args` meets its contract: by the row of the operation.
 use borrow.Author.Needs.{needs}
 use Rattle.protocol.proofs.read_op_args.Statement.{statement}
 use Rattle.protocol.proofs.read_op_args.Tie as tie
-use Rattle.protocol.proofs.read_op_args.Reads as reads
-use Rattle.protocol.proofs.read_op_args.Lts as lts
 use denote.Ref.{now}
 use Prim.Native.Nat.{_/_}
 use lib.ListN.{length}

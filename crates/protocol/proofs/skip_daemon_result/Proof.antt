@@ -1,8 +1,7 @@
+-- `protocol::skip_daemon_result` meets its contract: by the row of the operation.
 use borrow.Author.Needs.{needs}
 use Rattle.protocol.proofs.skip_daemon_result.Statement.{statement}
 use Rattle.protocol.proofs.skip_daemon_result.Tie as tie
-use Rattle.protocol.proofs.skip_daemon_result.Reads as reads
-use Rattle.protocol.proofs.skip_daemon_result.Lts as lts
 use denote.Ref.{now}
 use mathlib.Core.Path.{_∙_}
 use Rattle.layouts.specs.Primitive.{version}

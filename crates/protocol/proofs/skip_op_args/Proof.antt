@@ -1,8 +1,7 @@
+-- `protocol::skip_op_args` meets its contract: by the row of the operation; the one entry is lent two numbers 0.
 use borrow.Author.Needs.{needs}
 use Rattle.protocol.proofs.skip_op_args.Statement.{statement}
 use Rattle.protocol.proofs.skip_op_args.Tie as tie
-use Rattle.protocol.proofs.skip_op_args.Reads as reads
-use Rattle.protocol.proofs.skip_op_args.Lts as lts
 use denote.Ref.{now}
 use Rattle.layouts.specs.Primitive.{version}
 use Rattle.layouts.specs.Pieces.{run}

@@ -1,19 +1,9 @@
+-- `stderr::read_error_block` meets its contract: what is judged fine fits.
 use borrow.Author.Needs.{needs}
 use Rattle.stderr.proofs.read_error_block.Statement.{statement}
 use Rattle.stderr.proofs.read_error_block.Tie as tie
-use Rattle.stderr.proofs.read_error_block.Reads as reads
-use Rattle.stderr.proofs.read_error_block.Lts as lts
 use denote.Ref.{now}
 use Rattle.stderr.proofs.Block.{block-refused, block-kept, block-fine, block-filled}
-
-same-length : tie.Need-same-length
-same-length c = c .before .before .before .fill-entries .ensures .size
-
-returns : tie.Need-returns
-returns c = (block-refused (now (c .before .before .before .before .before .before .args .s)) (c .before .before .before .before .before .before .args .at) (c .before .before .before .before .before .before .args .sofar) (now (c .before .before .before .before .before .before .args .entries)) _ (c .before .before .before .judge .ensures) _ _ _ (c .enum-told .given .1), block-kept (now (c .before .before .before .before .before .before .args .s)) (c .before .before .before .before .before .before .args .at) (c .before .before .before .before .before .before .args .sofar) (now (c .before .before .before .before .before .before .args .entries)) _ (c .before .before .before .judge .ensures) _ _ _ (c .enum-told .given .1))
-
-returns-2 : tie.Need-returns-2
-returns-2 c = (block-fine (now (c .before .before .before .before .before .before .before .before .before .before .before .args .s)) (c .before .before .before .before .before .before .before .before .before .before .before .args .at) (c .before .before .before .before .before .before .before .before .before .before .before .args .sofar) (now (c .before .before .before .before .before .before .before .before .before .before .before .args .entries)) _ (c .before .before .before .before .before .before .before .before .judge .ensures) (c .before .before .before .before .before .enum-told2 .given .1) _ (c .answer .ensures), block-filled (now (c .before .before .before .before .before .before .before .before .before .before .before .args .s)) (c .before .before .before .before .before .before .before .before .before .before .before .args .at) (c .before .before .before .before .before .before .before .before .before .before .before .args .sofar) (now (c .before .before .before .before .before .before .before .before .before .before .before .args .entries)) _ (c .before .before .before .before .before .before .before .before .judge .ensures) (c .before .before .before .before .before .enum-told2 .given .1) _ _ (c .before .before .before .before .before .before .before .before .before .before .before .pre .0) (c .before .before .before .before .before .before .before .before .before .before .before .pre .1) (c .before .before .before .fill-entries .ensures))
 
 pub read-error-block-spec : {M : Type 1} → statement M
 read-error-block-spec =
@@ -24,6 +14,6 @@ read-error-block-spec =
     (λ c. search needs)
     (λ c κs. search needs)
     (λ c κs. search needs)
-    returns
-    same-length
-    returns-2)
+    (λ c. (block-refused (now (c .before .before .before .before .before .before .args .s)) (c .before .before .before .before .before .before .args .at) (c .before .before .before .before .before .before .args .sofar) (now (c .before .before .before .before .before .before .args .entries)) _ (c .before .before .before .judge .ensures) _ _ _ (c .enum-told .given .1), block-kept (now (c .before .before .before .before .before .before .args .s)) (c .before .before .before .before .before .before .args .at) (c .before .before .before .before .before .before .args .sofar) (now (c .before .before .before .before .before .before .args .entries)) _ (c .before .before .before .judge .ensures) _ _ _ (c .enum-told .given .1)))
+    (λ c. c .before .before .before .fill-entries .ensures .size)
+    (λ c. (block-fine (now (c .before .before .before .before .before .before .before .before .before .before .before .args .s)) (c .before .before .before .before .before .before .before .before .before .before .before .args .at) (c .before .before .before .before .before .before .before .before .before .before .before .args .sofar) (now (c .before .before .before .before .before .before .before .before .before .before .before .args .entries)) _ (c .before .before .before .before .before .before .before .before .judge .ensures) (c .before .before .before .before .before .enum-told2 .given .1) _ (c .answer .ensures), block-filled (now (c .before .before .before .before .before .before .before .before .before .before .before .args .s)) (c .before .before .before .before .before .before .before .before .before .before .before .args .at) (c .before .before .before .before .before .before .before .before .before .before .before .args .sofar) (now (c .before .before .before .before .before .before .before .before .before .before .before .args .entries)) _ (c .before .before .before .before .before .before .before .before .judge .ensures) (c .before .before .before .before .before .enum-told2 .given .1) _ _ (c .before .before .before .before .before .before .before .before .before .before .before .pre .0) (c .before .before .before .before .before .before .before .before .before .before .before .pre .1) (c .before .before .before .fill-entries .ensures))))

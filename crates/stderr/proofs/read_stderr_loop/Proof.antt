@@ -1,16 +1,9 @@
+-- `stderr::read_stderr_loop` meets its contract: the loop, as an answer.
 use borrow.Author.Needs.{needs}
 use Rattle.stderr.proofs.read_stderr_loop.Statement.{statement}
 use Rattle.stderr.proofs.read_stderr_loop.Tie as tie
-use Rattle.stderr.proofs.read_stderr_loop.Reads as reads
-use Rattle.stderr.proofs.read_stderr_loop.Lts as lts
 use denote.Ref.{now}
 use Rattle.stderr.proofs.Block.{loop-refused, loop-stops}
-
-returns : tie.Need-returns
-returns c = loop-refused (now (c .before .before .before .before .before .before .args .s)) (c .before .before .before .before .stderr-loop .result) (c .before .before .before .before .stderr-loop .ensures) _ _ (c .before .before .l .given .1) _ (c .refuse .ensures)
-
-returns-2 : tie.Need-returns-2
-returns-2 c = loop-stops (now (c .before .before .before .before .before .before .before .args .s)) (c .before .before .before .before .before .stderr-loop .result) (c .before .before .before .before .before .stderr-loop .ensures) _ _ _ (c .before .before .before .l2 .given .1) _ (c .before .stopped-record .ensures) _ (c .answer .ensures)
 
 pub read-stderr-loop-spec : {M : Type 1} → statement M
 read-stderr-loop-spec =
@@ -22,5 +15,5 @@ read-stderr-loop-spec =
     (λ c. search needs)
     (λ c κs. search needs)
     (λ c κs. search needs)
-    returns
-    returns-2)
+    (λ c. loop-refused (now (c .before .before .before .before .before .before .args .s)) (c .before .before .before .before .stderr-loop .result) (c .before .before .before .before .stderr-loop .ensures) _ _ (c .before .before .l .given .1) _ (c .refuse .ensures))
+    (λ c. loop-stops (now (c .before .before .before .before .before .before .before .args .s)) (c .before .before .before .before .before .stderr-loop .result) (c .before .before .before .before .before .stderr-loop .ensures) _ _ _ (c .before .before .before .l2 .given .1) _ (c .before .stopped-record .ensures) _ (c .answer .ensures)))

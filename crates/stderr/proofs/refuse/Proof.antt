@@ -1,19 +1,14 @@
+-- `stderr::refuse` meets its contract: all but the outcome is blank.
 use borrow.Author.Needs.{needs}
 use Rattle.stderr.proofs.refuse.Statement.{statement}
 use Rattle.stderr.proofs.refuse.Tie as tie
-use Rattle.stderr.proofs.refuse.Reads as reads
-use Rattle.stderr.proofs.refuse.Lts as lts
 use mathlib.Core.Path.{ap}
 use Rattle.layouts.specs.declared.Record.{Record}
 use Rattle.judge.specs.declared.Outcome.the-variants.{Refused}
-use Rattle.judge.specs.declared.Answer.{Answer}
-
-returns : tie.Need-returns
-returns c = ap (λ (x : Record). record { outcome = Refused (c .before .args .which) (c .before .args .place) 0; kind = 0; ends = 0; ends2 = 0; found = x }) (c .empty .ensures)
 
 pub refuse-spec : {M : Type 1} → statement M
 refuse-spec =
     tie.close
     (tie.spec
     (λ c κs. search needs)
-    returns)
+    (λ c. ap (λ (x : Record). record { outcome = Refused (c .before .args .which) (c .before .args .place) 0; kind = 0; ends = 0; ends2 = 0; found = x }) (c .empty .ensures)))
