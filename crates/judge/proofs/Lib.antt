@@ -2,3 +2,4 @@ pub mod Notes
 pub mod Pieces
 pub mod Judging
 pub mod Answers
+pub mod Unique

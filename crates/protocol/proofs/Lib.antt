@@ -1,2 +1,4 @@
 pub mod Filled
 pub mod Rows
+pub mod Unique
+pub mod Demands

@@ -1,16 +1,28 @@
 -- What `layouts` says, as the code answers it.
-use Prim.Native.Nat.{ℕ, _≤_}
+use Prim.Native.Nat.{ℕ, _/_, _≤_}
 use mathlib.Core.Path.{_≡_}
 use mathlib.Core.List.{List, [], _++_}
 use lib.ListN.{length, getD, drop}
 use Rattle.layouts.specs.Primitive.{Version, Result, ok, refused, onward}
-use Rattle.layouts.specs.Judge.{Ended}
-use Rattle.layouts.specs.Calls.{Answer}
+use Rattle.layouts.specs.Record.{blank}
+use Rattle.layouts.specs.Judge.{Ended, judgeOf}
+use Rattle.layouts.specs.Calls.{Answer, readOpArgs, readDaemonResult}
+use Rattle.walk.specs.Walk.{layoutPieces}
 use Rattle.table.specs.Table.{kindNumbered}
 use Rattle.judge.specs.declared.Outcome.the-variants.{Fine, Refused}
 use Rattle.protocol.specs.declared.Arguments.{Arguments}
 
--- with the kind by its code in the table
+-- ---- a read with the room of two lent slices: two numbers make a slot
+abbrev pub argumentsRead : (op : ℕ) → Version → (s entries payload : List ℕ) → Result Answer
+argumentsRead op v s entries payload = readOpArgs op v s (length entries / 2) (length payload)
+
+abbrev pub replyRead : (op : ℕ) → Version → (s entries payload : List ℕ) → Result Answer
+replyRead op v s entries payload = readDaemonResult op v s (length entries / 2) (length payload)
+
+abbrev pub runRead : Version → (run : ℕ) → (s entries payload : List ℕ) → Result Ended
+runRead v i s entries payload = judgeOf s (length entries / 2) (length payload) blank (layoutPieces v i s 0)
+
+-- ---- answers, with the kind by its code in the table
 abbrev pub answeredAs : Version → (code : ℕ) → Result Ended → Result Answer
 answeredAs v c o = onward o (λ e. ok (record { kind = kindNumbered v (e .found .present) c; ends = e .ends; ends2 = 0; found = e .found }))
 

@@ -1,16 +1,13 @@
 // Arguments and replies by operation, under the names of nix-wire's protocol.rs. Each call takes the part of the stream that starts where the last one
 // ended. Reading judges first, in a walk without writes, and fills only then, so a refusal changes no lent memory.
 ghost use mathlib.Core.Path.{_≡_};
-ghost use Prim.Native.Nat.{_/_};
-ghost use lib.ListN.{length};
 ghost use Rattle.layouts.specs.Primitive.{version, refused};
 ghost use Rattle.layouts.specs.Pieces.{run};
-ghost use Rattle.layouts.specs.Record.{blank};
-ghost use Rattle.layouts.specs.Judge.{judgeOf, entriesOf, payloadOf, lentAfter};
-ghost use Rattle.layouts.specs.Calls.{argumentsTree, skippedTree, replyTree, readOpArgs, skipOpArgs, readDaemonResult, skipDaemonResult, entriesAfter, payloadAfter};
+ghost use Rattle.layouts.specs.Judge.{entriesOf, payloadOf, lentAfter};
+ghost use Rattle.layouts.specs.Calls.{argumentsTree, skippedTree, replyTree, skipOpArgs, skipDaemonResult, entriesAfter, payloadAfter};
 ghost use Rattle.walk.specs.Walk.{layoutPieces};
 ghost use Rattle.judge.specs.Judged.{answerAs, skipped};
-ghost use Rattle.protocol.specs.Protocol.{answeredAs, argumentsAs, fronted, Reported};
+ghost use Rattle.protocol.specs.Protocol.{argumentsRead, replyRead, runRead, answeredAs, argumentsAs, fronted, Reported};
 use judge::Answer;
 use judge::Outcome;
 use judge::Skipped;
@@ -75,9 +72,9 @@ fn read(
     entries: &mut [u64],
     payload: &mut [u8],
 ) -> Answer
-    ensures answer { λ r. ⌜ r ≡ answerAs (answeredAs (version major minor) code (judgeOf (now (s .entry)) (length (now (entries .entry)) / 2) (length (now (payload .entry))) blank (layoutPieces (version major minor) run (now (s .entry)) 0))) ⌝ }
-    ensures entries { λ r. ⌜ now (entries .exit) ≡ lentAfter (judgeOf (now (s .entry)) (length (now (entries .entry)) / 2) (length (now (payload .entry))) blank (layoutPieces (version major minor) run (now (s .entry)) 0)) (entriesOf (layoutPieces (version major minor) run (now (s .entry)) 0)) (now (entries .entry)) ⌝ }
-    ensures payload { λ r. ⌜ now (payload .exit) ≡ lentAfter (judgeOf (now (s .entry)) (length (now (entries .entry)) / 2) (length (now (payload .entry))) blank (layoutPieces (version major minor) run (now (s .entry)) 0)) (payloadOf (now (s .entry)) (layoutPieces (version major minor) run (now (s .entry)) 0)) (now (payload .entry)) ⌝ }
+    ensures answer { λ r. ⌜ r ≡ answerAs (answeredAs (version major minor) code (runRead (version major minor) run (now (s .entry)) (now (entries .entry)) (now (payload .entry)))) ⌝ }
+    ensures entries { λ r. ⌜ now (entries .exit) ≡ lentAfter (runRead (version major minor) run (now (s .entry)) (now (entries .entry)) (now (payload .entry))) (entriesOf (layoutPieces (version major minor) run (now (s .entry)) 0)) (now (entries .entry)) ⌝ }
+    ensures payload { λ r. ⌜ now (payload .exit) ≡ lentAfter (runRead (version major minor) run (now (s .entry)) (now (entries .entry)) (now (payload .entry))) (payloadOf (now (s .entry)) (layoutPieces (version major minor) run (now (s .entry)) 0)) (now (payload .entry)) ⌝ }
 {
     let slots = entries.len() / 2;
     let a = judge::judge(
@@ -127,9 +124,9 @@ pub fn read_op_args(
     entries: &mut [u64],
     payload: &mut [u8],
 ) -> Answer
-    ensures answer { λ r. ⌜ r ≡ answerAs (readOpArgs op (version major minor) (now (s .entry)) (length (now (entries .entry)) / 2) (length (now (payload .entry)))) ⌝ }
-    ensures entries { λ r. ⌜ now (entries .exit) ≡ entriesAfter (readOpArgs op (version major minor) (now (s .entry)) (length (now (entries .entry)) / 2) (length (now (payload .entry)))) (run (argumentsTree op (version major minor)) (now (s .entry)) 0) (now (entries .entry)) ⌝ }
-    ensures payload { λ r. ⌜ now (payload .exit) ≡ payloadAfter (readOpArgs op (version major minor) (now (s .entry)) (length (now (entries .entry)) / 2) (length (now (payload .entry)))) (now (s .entry)) (run (argumentsTree op (version major minor)) (now (s .entry)) 0) (now (payload .entry)) ⌝ }
+    ensures answer { λ r. ⌜ r ≡ answerAs (argumentsRead op (version major minor) (now (s .entry)) (now (entries .entry)) (now (payload .entry))) ⌝ }
+    ensures entries { λ r. ⌜ now (entries .exit) ≡ entriesAfter (argumentsRead op (version major minor) (now (s .entry)) (now (entries .entry)) (now (payload .entry))) (run (argumentsTree op (version major minor)) (now (s .entry)) 0) (now (entries .entry)) ⌝ }
+    ensures payload { λ r. ⌜ now (payload .exit) ≡ payloadAfter (argumentsRead op (version major minor) (now (s .entry)) (now (entries .entry)) (now (payload .entry))) (now (s .entry)) (run (argumentsTree op (version major minor)) (now (s .entry)) 0) (now (payload .entry)) ⌝ }
 {
     let f = table::find(op);
     match f {
@@ -167,7 +164,7 @@ pub fn skip_op_args(op: u64, major: u16, minor: u8, s: &[u8]) -> Arguments
         },
         Found::Row(row) => {
             let mut nothing: [u8; 0] = [];
-            let a = read(
+            let r = read(
                 s,
                 major,
                 minor,
@@ -176,12 +173,12 @@ pub fn skip_op_args(op: u64, major: u16, minor: u8, s: &[u8]) -> Arguments
                 &mut entry,
                 &mut nothing,
             );
-            let o = a.outcome;
-            let found = a.found;
+            let o = r.outcome;
+            let found = r.found;
             Arguments {
                 outcome: o,
-                kind: a.kind,
-                ends: a.ends,
+                kind: r.kind,
+                ends: r.ends,
                 count: found.numbers[0],
                 start: entry[0],
                 len: entry[1],
@@ -198,9 +195,9 @@ pub fn read_daemon_result(
     entries: &mut [u64],
     payload: &mut [u8],
 ) -> Answer
-    ensures answer { λ r. ⌜ r ≡ answerAs (readDaemonResult op (version major minor) (now (s .entry)) (length (now (entries .entry)) / 2) (length (now (payload .entry)))) ⌝ }
-    ensures entries { λ r. ⌜ now (entries .exit) ≡ entriesAfter (readDaemonResult op (version major minor) (now (s .entry)) (length (now (entries .entry)) / 2) (length (now (payload .entry)))) (run (replyTree op (version major minor)) (now (s .entry)) 0) (now (entries .entry)) ⌝ }
-    ensures payload { λ r. ⌜ now (payload .exit) ≡ payloadAfter (readDaemonResult op (version major minor) (now (s .entry)) (length (now (entries .entry)) / 2) (length (now (payload .entry)))) (now (s .entry)) (run (replyTree op (version major minor)) (now (s .entry)) 0) (now (payload .entry)) ⌝ }
+    ensures answer { λ r. ⌜ r ≡ answerAs (replyRead op (version major minor) (now (s .entry)) (now (entries .entry)) (now (payload .entry))) ⌝ }
+    ensures entries { λ r. ⌜ now (entries .exit) ≡ entriesAfter (replyRead op (version major minor) (now (s .entry)) (now (entries .entry)) (now (payload .entry))) (run (replyTree op (version major minor)) (now (s .entry)) 0) (now (entries .entry)) ⌝ }
+    ensures payload { λ r. ⌜ now (payload .exit) ≡ payloadAfter (replyRead op (version major minor) (now (s .entry)) (now (entries .entry)) (now (payload .entry))) (now (s .entry)) (run (replyTree op (version major minor)) (now (s .entry)) 0) (now (payload .entry)) ⌝ }
 {
     let f = table::find(op);
     match f {

@@ -1,2 +1,3 @@
 pub mod Going
 pub mod Block
+pub mod Unique
