@@ -76,8 +76,8 @@ module _ (s : List ℕ) (at n : ℕ) (r : Number) (e : numRead r ≡ peekNumber 
   pub cut-chunk : (n ≡ 0 → ⊥) → n ≤ 268435456 → length s - (at + 8) < n → wrong 1 (at + 8) ≡ chunkOf (length s) (numberAt s at) at
   cut-chunk z l h = let t = there in chunk-as _ (chunk-cut (length s) n at l t (omega arith) (omega arith))
 
-  pub whole-chunk : (n ≡ 0 → ⊥) → n ≤ 268435456 → n ≤ length s - (at + 8) → part (at + 8) n (at + 8 + n) ≡ chunkOf (length s) (numberAt s at) at
-  whole-chunk z l h = let t = there in chunk-as _ (chunk-part (length s) n at l (omega arith) (omega arith))
+  pub whole-chunk : (next : ℕ) → next ≡ at + 8 + n → (n ≡ 0 → ⊥) → n ≤ 268435456 → n ≤ length s - (at + 8) → part (at + 8) n next ≡ chunkOf (length s) (numberAt s at) at
+  whole-chunk next p z l h = let t = there in rw p (chunk-as _ (chunk-part (length s) n at l (omega arith) (omega arith)))
 
 module _ (s : List ℕ) (at : ℕ) (r : Number) (e : numRead r ≡ peekNumber s at) (q : r ≡ Short) where
   pub no-string : bad 1 at ≡ textOf (length s) (numberAt s at) at

@@ -80,17 +80,17 @@ module _ (s : List ℕ) (at : ℕ) (r : Number) (e : numRead r ≡ peekNumber s 
   unfolding numOf numberAt
   number-short q = word-short 8 s at r e q
 
-  pub number-read : (n : ℕ) → r ≡ Value n → ok (record { found = withNumber blank 0 n; ends = at + 8 }) ≡ readNumber s at
+  pub number-read : (n next : ℕ) → r ≡ Value n → next ≡ at + 8 → ok (record { found = withNumber blank 0 n; ends = next }) ≡ readNumber s at
   unfolding judgeOf noted run
-  number-read n q = let k = number-known n q in rw (field-number (asNumber 0), ask-value s at n (k .1) (asNumber 0) (λ v. stop) (k .0))
+  number-read n next q h = let k = number-known n q in rw (h, field-number (asNumber 0), ask-value s at n (k .1) (asNumber 0) (λ v. stop) (k .0))
 
   pub number-cut : r ≡ Short → refused 1 at 0 ≡ readNumber s at
   unfolding judgeOf
   number-cut q = rw (field-number (asNumber 0), ask-short s at (numberAt s at) refl (asNumber 0) (λ v. stop) (number-short q))
 
 module _ (s : List ℕ) (at : ℕ) (r : Number) (e : numRead r ≡ wordAt 4 s at) where
-  pub u32-read : (n : ℕ) → r ≡ Value n → ok (record { found = withNumber blank 0 n; ends = at + 4 }) ≡ readU32 s at
-  u32-read n q = let k = word-known 4 s at r e n q in simp (le-leb (at + 4) (length s) (k .0), k .1)
+  pub u32-read : (n next : ℕ) → r ≡ Value n → next ≡ at + 4 → ok (record { found = withNumber blank 0 n; ends = next }) ≡ readU32 s at
+  u32-read n next q h = let k = word-known 4 s at r e n q in simp (h, le-leb (at + 4) (length s) (k .0), k .1)
 
   pub u32-cut : r ≡ Short → refused 1 at 0 ≡ readU32 s at
   u32-cut q = simp (lt-leb (at + 4) (length s) (word-short 4 s at r e q))

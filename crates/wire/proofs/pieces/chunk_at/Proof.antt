@@ -24,4 +24,4 @@ chunk-at-spec =
     (λ c. search cut-chunk)
     (λ c. search needs)
     (λ c. search no-chunk)
-    (λ c. search whole-chunk))
+    (λ c. whole-chunk (now (c .before .before .before .before .before .before .before .before .args .s)) (c .before .before .before .before .before .before .before .before .args .at) _ _ (c .before .before .before .before .before .before .number-at .ensures) (c .before .before .before .before .n .given .1) _ (omega arith) (c .before .before .if1 .left) (c .before .if2 .left) (c .if3 .left)))
