@@ -1,9 +1,11 @@
+-- `wire::Cursor::read_u32` meets its contract.
 use borrow.Author.Needs.{needs}
 use Rattle.wire.proofs.Cursor.read_u32.Statement.{statement}
 use Rattle.wire.proofs.Cursor.read_u32.Tie as tie
 use native.Mathlib.Omega.{arith}
 use denote.Ref.{now}
-use Rattle.wire.proofs.Numbers.{word-known, u32-read, u32-cut}
+use Rattle.pieces.proofs.Numbers.{word-known}
+use Rattle.wire.proofs.Numbers.{u32-read, u32-cut}
 
 pub read-u32-spec : {M : Type 1} → statement M
 read-u32-spec =
