@@ -1,4 +1,4 @@
--- A number written at the start of a part, at any width.
+-- A number read and written at the start of a part, at any width.
 use Prim.Native.Nat.{ℕ, _≤_, _<_}
 use mathlib.Core.Path.{_≡_, refl, sym}
 use mathlib.Core.List.{List}
@@ -7,10 +7,23 @@ use lib.ListN.{length}
 use lib.Seq.{sets, sets-eq}
 use native.Mathlib.Omega.{arith}
 use native.Mathlib.Nat.{zero-add}
-use borrow.Author.Tests.{le-leb, lt-leb}
-use Rattle.layouts.specs.Primitive.{littleEnd}
+use borrow.Author.Tests.{le-leb, lt-leb, le-ltb, lt-ltb}
+use lib.Dec.{ltb}
+use Rattle.layouts.specs.Primitive.{pick, littleAt, littleEnd}
 use Rattle.layouts.proofs.Little.{length-little}
 use Rattle.number.specs.Number.{wrote, stored}
+use Rattle.number.specs.declared.Number.{Number}
+use Rattle.number.specs.declared.Number.the-variants.{Value, Short}
+
+module _ (k : ℕ) (s : List ℕ) where
+  abbrev readOf : Number
+  readOf = pick (ltb (length s) k) Short (Value (littleAt k s 0))
+
+  pub read-there : (v : ℕ) → k ≤ length s → v ≡ littleAt k s 0 → Value v ≡ readOf
+  read-there v h e = rw (le-ltb (length s) k h, e)
+
+  pub read-none : length s < k → Short ≡ readOf
+  read-none h = rw (lt-ltb (length s) k h)
 
 pub write-fits : (k x : ℕ) (lent : List ℕ) → k ≤ length lent → (true ≡ wrote k lent) × (sets lent 0 (littleEnd k x) ≡ stored k x lent)
 write-fits k x lent h =

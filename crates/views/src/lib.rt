@@ -8,7 +8,7 @@ ghost use Rattle.layouts.specs.Writers.{viewOf, featureOf, partOf, storeDirecto
 ghost use Rattle.views.specs.Fault.{meaning, faultOf};
 
 // The refusal of an index that is not below the slots.
-const NO_SUCH_ENTRY: u64 = 11;
+pub const NO_SUCH_ENTRY: u64 = 11;
 
 // The refusal of an entry that passes the end of the bytes.
 const BAD_ENTRY: u64 = 12;

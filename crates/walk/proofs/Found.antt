@@ -1,4 +1,4 @@
--- What is known of a number, a string or a chunk that `wire` found at a place.
+-- What is known of a number, a string or a chunk that `pieces` found at a place.
 use Prim.Native.Nat.{ℕ, _+_, _≤_, _<_}
 use mathlib.Core.Path.{_≡_, refl, sym, _∙_, ap, subst}
 use mathlib.Core.List.{List}
@@ -10,9 +10,9 @@ use Rattle.layouts.proofs.Views.{NumView, is-value, is-short, TextView, no-leng
 use Rattle.layouts.proofs.Views.{num-view, text-view, chunk-view}
 use Rattle.number.specs.declared.Number.{Number}
 use Rattle.number.specs.declared.Number.the-variants.{Value}
-use Rattle.wire.specs.declared.pieces.Text as T
-use Rattle.wire.specs.declared.pieces.Chunk as C
-use Rattle.wire.specs.Pieces.{numRead, textRead, chunkRead}
+use Rattle.pieces.specs.declared.Text as T
+use Rattle.pieces.specs.declared.Chunk as C
+use Rattle.pieces.specs.Pieces.{numRead, textRead, chunkRead}
 
 -- what is found ends within the stream, and took at least a number
 abbrev NumSays : (size n at : ℕ) → Num → Type 0

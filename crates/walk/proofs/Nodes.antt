@@ -11,11 +11,11 @@ use Rattle.layouts.proofs.Views.{ChunkView, no-size, is-last, too-large, no-byt
 use Rattle.layouts.proofs.Steps.{frames-short, frames-last, frames-long, frames-cut, frames-part}
 use Rattle.number.specs.declared.Number.{Number}
 use Rattle.number.specs.declared.Number.the-variants.{Value, Short}
-use Rattle.wire.specs.declared.pieces.Text as T
-use Rattle.wire.specs.declared.pieces.Text.the-variants.{Whole, Half, Bad}
-use Rattle.wire.specs.declared.pieces.Chunk as C
-use Rattle.wire.specs.declared.pieces.Chunk.the-variants.{Part, Last, Wrong}
-use Rattle.wire.specs.Pieces.{numRead, textRead, chunkRead}
+use Rattle.pieces.specs.declared.Text as T
+use Rattle.pieces.specs.declared.Text.the-variants.{Whole, Half, Bad}
+use Rattle.pieces.specs.declared.Chunk as C
+use Rattle.pieces.specs.declared.Chunk.the-variants.{Part, Last, Wrong}
+use Rattle.pieces.specs.Pieces.{numRead, textRead, chunkRead}
 use Rattle.walk.proofs.Found.{text-found, chunk-found, number-known}
 use Rattle.walk.specs.declared.Flow.{Flow}
 use Rattle.walk.specs.declared.Walk.{Walk}

@@ -8,9 +8,8 @@ ghost use Rattle.layouts.specs.Pieces.{run};
 ghost use Rattle.table.specs.Table.{roleOf, slotOf};
 ghost use Rattle.walk.specs.Walk.{isThere, slotFor, afterOf, repeatsOf, intoRun, runTree, flowTree, todoTree, rest, shown, layoutPieces, Moved, Falls, fuel, fuelAt};
 use number::Number;
-use wire::pieces;
-use wire::pieces::Chunk;
-use wire::pieces::Text;
+use pieces::Chunk;
+use pieces::Text;
 
 // What is left of a layout at a version: the place of the next field, how often the body comes again, the place of the body, the next run.
 pub struct Flow {

@@ -1,22 +1,17 @@
 -- Each public contract has one answer: two answers that meet it, with the lent room at exit, are equal. `Post` is what Rattle reads off the source.
 use Prim.Native.Nat.{ℕ}
-use mathlib.Core.Path.{_≡_, refl, sym, _∙_, ap}
+use mathlib.Core.Path.{_≡_, refl, sym, _∙_}
 use lib.ListN.{getD}
 use contract.Lifetimes.{Lfts}
 use borrow.Fn.Kinds.{Dens, endedOf}
 use denote.Triple.Clauses.{AtExit}
 use denote.Ref.{now}
 use Rattle.layouts.specs.Primitive.{Result, ok, refused}
-use Rattle.layouts.specs.Pieces.{Num, value, short, Text, whole, cut, bad, Chunk, part, last, wrong}
+use Rattle.layouts.specs.Pieces.{Num, value, short}
 use Rattle.layouts.specs.Judge.{Ended}
-use Rattle.wire.specs.Answers.{numberRead, countRead, totalRead, peeked, skippedTo, Span, spanned}
-use Rattle.number.specs.declared.Number.{Number}
-use Rattle.number.specs.declared.Number.the-variants.{Value, Short}
-use Rattle.wire.specs.Pieces.{numRead, textRead, chunkRead}
-use Rattle.wire.specs.declared.pieces.Text as T
-use Rattle.wire.specs.declared.pieces.Text.the-variants.{Whole, Half, Bad}
-use Rattle.wire.specs.declared.pieces.Chunk as C
-use Rattle.wire.specs.declared.pieces.Chunk.the-variants.{Part, Last, Wrong}
+use Rattle.wire.specs.Answers.{numberRead, countRead, totalRead, peeked, skippedTo, spanned}
+use Rattle.pieces.specs.Pieces.{Span}
+use Rattle.pieces.proofs.Unique.{told}
 use Rattle.wire.specs.declared.Read.{Read}
 use Rattle.wire.specs.declared.Read.the-variants as R
 use Rattle.wire.specs.declared.Peeked.{Peeked}
@@ -25,12 +20,6 @@ use Rattle.wire.specs.declared.Spanned.{Spanned}
 use Rattle.wire.specs.declared.Spanned.the-variants as S
 use Rattle.wire.specs.declared.Skipped.{Skipped}
 use Rattle.wire.specs.declared.Skipped.the-variants as P
-use Rattle.wire.proofs.pieces.number_at.Reads as number-at
-use Rattle.wire.proofs.pieces.number_at.Kinds as number-at-kinds
-use Rattle.wire.proofs.pieces.text_at.Reads as text-at
-use Rattle.wire.proofs.pieces.text_at.Kinds as text-at-kinds
-use Rattle.wire.proofs.pieces.chunk_at.Reads as chunk-at
-use Rattle.wire.proofs.pieces.chunk_at.Kinds as chunk-at-kinds
 use Rattle.wire.proofs.Cursor.read_u64.Reads as read-u64
 use Rattle.wire.proofs.Cursor.read_u64.Kinds as read-u64-kinds
 use Rattle.wire.proofs.Cursor.read_u32.Reads as read-u32
@@ -51,10 +40,6 @@ use Rattle.wire.proofs.Cursor.read_framed.Reads as read-framed
 use Rattle.wire.proofs.Cursor.read_framed.Kinds as read-framed-kinds
 use Rattle.wire.proofs.Cursor.skip_framed.Reads as skip-framed
 use Rattle.wire.proofs.Cursor.skip_framed.Kinds as skip-framed-kinds
-
--- an answer is told by its meaning, where a function leads back from it
-told : {A B : Type 0} (f : A → B) (g : B → A) → ((a : A) → g (f a) ≡ a) → {b : B} (x y : A) → f x ≡ b → f y ≡ b → x ≡ y
-told f g h x y p q = sym (h x) ∙ ap g (p ∙ sym q) ∙ h y
 
 abbrev readBy : (Ended → ℕ) → Result Ended → Read
 readBy f (ok x) = R.Value (f x) (record { at = x .ends })
@@ -154,44 +139,3 @@ read-framed-unique κs a r r′ x x′ p q = (total-told r r′ (p .0) (q .0), p
 pub skip-framed-unique : (κs : Lfts 1) (a : Dens κs skip-framed-kinds.ps) (r r′ : Read) (x x′ : AtExit (endedOf 1 skip-framed-kinds.ps skip-framed-kinds.r) κs)
     → skip-framed.Post κs a r x → skip-framed.Post κs a r′ x′ → r ≡ r′
 skip-framed-unique κs a r r′ x x′ p q = number-told r r′ p q
-
--- ---- the pieces
-abbrev numberBack : Num → Number
-numberBack (value n) = Value n
-numberBack short = Short
-
-num-back : (r : Number) → numberBack (numRead r) ≡ r
-num-back (Value n) = refl
-num-back Short = refl
-
-abbrev textBack : Text → T.Text
-textBack (whole start len next) = Whole start len next
-textBack (cut start len) = Half start len
-textBack (bad which place) = Bad which place
-
-text-back : (r : T.Text) → textBack (textRead r) ≡ r
-text-back (Whole start len next) = refl
-text-back (Half start len) = refl
-text-back (Bad which place) = refl
-
-abbrev chunkBack : Chunk → C.Chunk
-chunkBack (part start len next) = Part start len next
-chunkBack (last next) = Last next
-chunkBack (wrong which place) = Wrong which place
-
-chunk-back : (r : C.Chunk) → chunkBack (chunkRead r) ≡ r
-chunk-back (Part start len next) = refl
-chunk-back (Last next) = refl
-chunk-back (Wrong which place) = refl
-
-pub number-at-unique : (κs : Lfts 1) (a : Dens κs number-at-kinds.ps) (r r′ : Number) (x x′ : AtExit (endedOf 1 number-at-kinds.ps number-at-kinds.r) κs)
-    → number-at.Post κs a r x → number-at.Post κs a r′ x′ → r ≡ r′
-number-at-unique κs a r r′ x x′ p q = told numRead numberBack num-back r r′ p q
-
-pub text-at-unique : (κs : Lfts 1) (a : Dens κs text-at-kinds.ps) (r r′ : T.Text) (x x′ : AtExit (endedOf 1 text-at-kinds.ps text-at-kinds.r) κs)
-    → text-at.Post κs a r x → text-at.Post κs a r′ x′ → r ≡ r′
-text-at-unique κs a r r′ x x′ p q = told textRead textBack text-back r r′ p q
-
-pub chunk-at-unique : (κs : Lfts 1) (a : Dens κs chunk-at-kinds.ps) (r r′ : C.Chunk) (x x′ : AtExit (endedOf 1 chunk-at-kinds.ps chunk-at-kinds.r) κs)
-    → chunk-at.Post κs a r x → chunk-at.Post κs a r′ x′ → r ≡ r′
-chunk-at-unique κs a r r′ x x′ p q = told chunkRead chunkBack chunk-back r r′ p q

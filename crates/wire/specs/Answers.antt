@@ -6,6 +6,7 @@ use Rattle.layouts.specs.Pieces.{Num, value, short}
 use Rattle.layouts.specs.Record.{blank, withNumber, withCount, withEntries, withPayload}
 use Rattle.layouts.specs.Judge.{Ended}
 use Rattle.layouts.specs.Calls.{skipString, readString}
+use Rattle.pieces.specs.Pieces.{Span, span}
 use Rattle.wire.specs.declared.Read.{Read}
 use Rattle.wire.specs.declared.Read.the-variants as R
 use Rattle.wire.specs.declared.Peeked.{Peeked}
@@ -37,15 +38,6 @@ peeked K.None = short
 abbrev pub skippedTo : Skipped → Result ℕ
 skippedTo (P.Past next) = ok (next .at)
 skippedTo (P.Refused which place) = refused which place 0
-
--- a string, by start and length of its contents, and the place after it
-pub record Span : Type 0 where
-  pub start : ℕ
-  pub len : ℕ
-  pub ends : ℕ
-
-abbrev pub span : (start len ends : ℕ) → Span
-span start len ends = record { start = start; len = len; ends = ends }
 
 abbrev pub spanned : Spanned → Result Span
 spanned (S.Contents start len next) = ok (span start len (next .at))

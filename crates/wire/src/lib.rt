@@ -1,8 +1,5 @@
 // The readers of nix-wire's wire_async.rs, under its names and in its order. A cursor by value stands for the place in the stream: each method
 // answers what it read with the next cursor, or the refusal with its place. A cursor past the end is refused like any stream that is cut short.
-pub mod pieces;
-mod runs;
-
 ghost use mathlib.Core.Path.{_≡_};
 ghost use Prim.Native.Nat.{_/_};
 ghost use lib.ListN.{length};
@@ -11,7 +8,11 @@ ghost use Rattle.layouts.specs.Pieces.{run};
 ghost use Rattle.layouts.specs.Judge.{entriesOf, payloadOf, lentAfter};
 ghost use Rattle.layouts.specs.Calls.{field, readNumber, readU32, peekNumber, skipString, readStringSet, skipStringSet, readFramed, skipFramed};
 ghost use Rattle.wire.specs.Answers.{numberRead, countRead, totalRead, peeked, spanned, skippedTo, readBytes, readText};
+ghost use Rattle.pieces.specs.Pieces.{stringAt};
 use number::Number;
+use pieces::Judged;
+use runs::Passed;
+use runs::Total;
 
 pub struct Cursor {
     pub at: usize,
@@ -44,6 +45,33 @@ pub enum Spanned {
 pub enum Skipped {
     Past(Cursor),
     Refused { which: u64, place: usize },
+}
+
+// A string, with the cursor after it.
+fn string_at(s: &[u8], at: usize, decoded: bool) -> Spanned
+    ensures { λ r. ⌜ spanned r ≡ stringAt (now (s .entry)) decoded at ⌝ }
+{
+    match pieces::string_at(s, at, decoded) {
+        Judged::Fine { start, len, next } => Spanned::Contents {
+            start,
+            len,
+            next: Cursor { at: next },
+        },
+        Judged::Refused { which, place } => Spanned::Refused { which, place },
+    }
+}
+
+// Framed data, with the cursor after it.
+fn frames_at(s: &[u8], at: usize, room: usize) -> Read
+    ensures { λ r. ⌜ totalRead r ≡ readFramed (now (s .entry)) at room ⌝ }
+{
+    match runs::frames_at(s, at, room) {
+        Total::Bytes { total, next } => Read::Value {
+            value: total,
+            next: Cursor { at: next },
+        },
+        Total::Refused { which, place } => Read::Refused { which, place },
+    }
 }
 
 impl Cursor {
@@ -95,20 +123,20 @@ impl Cursor {
         ensures { λ r. ⌜ spanned r ≡ readBytes (now (s .entry)) (self .at) ⌝ }
     {
         let at = self.at;
-        pieces::string_at(s, at, false)
+        string_at(s, at, false)
     }
 
     pub fn read_string(self, s: &[u8]) -> Spanned
         ensures { λ r. ⌜ spanned r ≡ readText (now (s .entry)) (self .at) ⌝ }
     {
-        pieces::string_at(s, self.at, true)
+        string_at(s, self.at, true)
     }
 
     // No text is looked at.
     pub fn skip_string(self, s: &[u8]) -> Skipped
         ensures { λ r. ⌜ skippedTo r ≡ skipString (now (s .entry)) (self .at) ⌝ }
     {
-        match pieces::string_at(s, self.at, false) {
+        match string_at(s, self.at, false) {
             Spanned::Contents {
                 start: _,
                 len: _,
@@ -133,10 +161,13 @@ impl Cursor {
                 let slots = (entries.len() / 2) as u64;
                 let first = at + 8;
                 match runs::strings_at(s, first, kept, true, slots) {
-                    Skipped::Refused { which, place } => Read::Refused { which, place },
-                    Skipped::Past(next) => {
+                    Passed::Refused { which, place } => Read::Refused { which, place },
+                    Passed::Past(next) => {
                         runs::fill_entries(s, first, kept, entries);
-                        Read::Value { value: kept, next }
+                        Read::Value {
+                            value: kept,
+                            next: Cursor { at: next },
+                        }
                     }
                 }
             }
@@ -156,8 +187,11 @@ impl Cursor {
             Number::Value(count) => {
                 let first = at + 8;
                 match runs::strings_at(s, first, count, false, 0) {
-                    Skipped::Refused { which, place } => Read::Refused { which, place },
-                    Skipped::Past(next) => Read::Value { value: count, next },
+                    Passed::Refused { which, place } => Read::Refused { which, place },
+                    Passed::Past(next) => Read::Value {
+                        value: count,
+                        next: Cursor { at: next },
+                    },
                 }
             }
         }
@@ -169,7 +203,7 @@ impl Cursor {
         ensures room { λ r. ⌜ now (out .exit) ≡ lentAfter (readFramed (now (s .entry)) (self .at) (length (now (out .entry)))) (payloadOf (now (s .entry)) (run (field framed) (now (s .entry)) (self .at))) (now (out .entry)) ⌝ }
     {
         let at = self.at;
-        match runs::frames_at(s, at, out.len()) {
+        match frames_at(s, at, out.len()) {
             Read::Refused { which, place } => Read::Refused { which, place },
             Read::Value { value, next } => {
                 runs::join_frames(s, at, out);
@@ -182,6 +216,6 @@ impl Cursor {
     pub fn skip_framed(self, s: &[u8]) -> Read
         ensures { λ r. ⌜ numberRead r ≡ skipFramed (now (s .entry)) (self .at) ⌝ }
     {
-        runs::frames_at(s, self.at, s.len())
+        frames_at(s, self.at, s.len())
     }
 }

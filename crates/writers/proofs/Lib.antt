@@ -1,6 +1,4 @@
 -- `Unique` says that the contracts leave one answer; the others serve the functions' proofs.
 pub mod Laws
 pub mod Framed
-pub mod Decimal
-pub mod Sets
 pub mod Unique

@@ -4,7 +4,7 @@ use Rattle.fill.proofs.copy_part.Statement.{statement}
 use Rattle.fill.proofs.copy_part.Tie as tie
 use denote.Ref.{now}
 use native.Mathlib.Omega.{arith}
-use Rattle.wire.proofs.Filling.{part-back}
+use Rattle.runs.proofs.Filling.{part-back}
 
 pub copy-part-spec : {M : Type 1} → statement M
 copy-part-spec =

@@ -1,8 +1,15 @@
 -- `number::read_four` meets its contract.
-use borrow.Author.Tests.{lt-ltb, le-ltb}
+use denote.Ref.{now}
+use native.Mathlib.Omega.{arith}
 use borrow.Author.Needs.{needs}
+use Rattle.number.proofs.Laws.{read-there, read-none}
 use Rattle.number.proofs.read_four.Statement.{statement}
 use Rattle.number.proofs.read_four.Tie as tie
 
 pub read-four-spec : {M : Type 1} → statement M
-read-four-spec = tie.close (tie.spec (λ c. simp (lt-ltb _ _ (c .if1 .taken))) (λ c κs. search needs) (λ c. simp (le-ltb _ _ (c .before .if1 .left), c .four .ensures .0)))
+read-four-spec =
+    tie.close
+    (tie.spec
+    (λ c. read-none 4 (now (c .before .before .args .s)) (omega arith))
+    (λ c κs. search needs)
+    (λ c. read-there 4 (now (c .before .before .before .args .s)) _ (omega arith) (c .four .ensures .0)))

@@ -1,3 +1,4 @@
+-- `writers::put_chunk` meets its contract.
 use borrow.Author.Needs.{needs}
 use Rattle.writers.proofs.put_chunk.Statement.{statement}
 use Rattle.writers.proofs.put_chunk.Tie as tie

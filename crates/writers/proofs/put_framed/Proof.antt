@@ -1,3 +1,4 @@
+-- `writers::put_framed` meets its contract: what is written and what is to come make up the output.
 use borrow.Author.Needs.{needs}
 use Rattle.writers.proofs.put_framed.Statement.{statement}
 use Rattle.writers.proofs.put_framed.Tie as tie
@@ -6,7 +7,7 @@ use Prim.Native.Nat.{_+_, _-_, _≤_}
 use denote.Ref.{now}
 use lib.ListN.{length, drop}
 use Rattle.layouts.specs.Writers.{framedBytes}
-use Rattle.writers.proofs.Laws.{Filling, filling-start}
+use Rattle.output.proofs.Laws.{Filling, filling-start}
 use Rattle.writers.proofs.Framed.{framed-room, framed-turn, framed-last, framed-end}
 
 abbrev Inv-loop : tie.InvT-loop

@@ -1,3 +1,4 @@
+-- `writers::write_bytes` meets its contract.
 use borrow.Author.Needs.{needs}
 use Rattle.writers.proofs.write_bytes.Statement.{statement}
 use Rattle.writers.proofs.write_bytes.Tie as tie
@@ -5,7 +6,7 @@ use native.Mathlib.Omega.{arith}
 use mathlib.Core.Path.{sym, _∙_}
 use denote.Ref.{now}
 use Rattle.layouts.specs.Writers.{stringBytes}
-use Rattle.writers.proofs.Laws.{length-string, done, full}
+use Rattle.output.proofs.Laws.{length-string, done, full}
 
 returns : tie.Need-returns
 returns c =

@@ -1,3 +1,4 @@
+-- `writers::write_framed` meets its contract.
 use borrow.Author.Needs.{needs}
 use Rattle.writers.proofs.write_framed.Statement.{statement}
 use Rattle.writers.proofs.write_framed.Tie as tie
@@ -5,7 +6,7 @@ use native.Mathlib.Omega.{arith}
 use mathlib.Core.Path.{sym, _∙_}
 use denote.Ref.{now}
 use Rattle.layouts.specs.Writers.{framedBytes}
-use Rattle.writers.proofs.Laws.{done, full}
+use Rattle.output.proofs.Laws.{done, full}
 use Rattle.writers.proofs.Framed.{length-framed}
 
 returns : tie.Need-returns

@@ -1,3 +1,4 @@
+-- `writers::write_u32` meets its contract.
 use borrow.Author.Needs.{needs}
 use Rattle.writers.proofs.write_u32.Statement.{statement}
 use Rattle.writers.proofs.write_u32.Tie as tie

@@ -1,3 +1,4 @@
+-- `writers::write_u64` meets its contract.
 use borrow.Author.Needs.{needs}
 use Rattle.writers.proofs.write_u64.Statement.{statement}
 use Rattle.writers.proofs.write_u64.Tie as tie

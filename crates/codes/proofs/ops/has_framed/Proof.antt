@@ -1,3 +1,4 @@
+-- `codes::ops::has_framed` meets its contract.
 use mathlib.Core.Path.{refl}
 use Rattle.codes.proofs.ops.has_framed.Statement.{statement}
 use Rattle.codes.proofs.ops.has_framed.Tie as tie

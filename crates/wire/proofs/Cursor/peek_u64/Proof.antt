@@ -1,8 +1,9 @@
+-- `wire::Cursor::peek_u64` meets its contract.
 use borrow.Author.Needs.{needs}
 use Rattle.wire.proofs.Cursor.peek_u64.Statement.{statement}
 use Rattle.wire.proofs.Cursor.peek_u64.Tie as tie
-use Rattle.wire.specs.Pieces.{numRead}
-use Rattle.wire.proofs.Numbers.{as-told}
+use Rattle.pieces.specs.Pieces.{numRead}
+use Rattle.pieces.proofs.Numbers.{as-told}
 
 pub peek-u64-spec : {M : Type 1} → statement M
 peek-u64-spec =

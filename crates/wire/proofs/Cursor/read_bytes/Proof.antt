@@ -1,3 +1,4 @@
+-- `wire::Cursor::read_bytes` meets its contract.
 use borrow.Author.Needs.{needs}
 use Rattle.wire.proofs.Cursor.read_bytes.Statement.{statement}
 use Rattle.wire.proofs.Cursor.read_bytes.Tie as tie

@@ -1,3 +1,4 @@
+-- `wire::Cursor::read_framed` meets its contract.
 use borrow.Author.Needs.{needs}
 use Rattle.wire.proofs.Cursor.read_framed.Statement.{statement}
 use Rattle.wire.proofs.Cursor.read_framed.Tie as tie

@@ -1,3 +1,4 @@
+-- `wire::Cursor::read_string` meets its contract.
 use borrow.Author.Needs.{needs}
 use Rattle.wire.proofs.Cursor.read_string.Statement.{statement}
 use Rattle.wire.proofs.Cursor.read_string.Tie as tie

@@ -1,9 +1,10 @@
+-- `wire::Cursor::read_string_set` meets its contract.
 use borrow.Author.Needs.{needs}
 use Rattle.wire.proofs.Cursor.read_string_set.Statement.{statement}
 use Rattle.wire.proofs.Cursor.read_string_set.Tie as tie
 use native.Mathlib.Omega.{arith}
 use denote.Ref.{now}
-use Rattle.wire.proofs.Numbers.{number-known}
+use Rattle.pieces.proofs.Numbers.{number-known}
 use Rattle.wire.proofs.Sets.{set-cut, set-refused, set-fits, set-read}
 
 pub read-string-set-spec : {M : Type 1} → statement M

@@ -1,9 +1,11 @@
+-- `wire::Cursor::read_u32` meets its contract.
 use borrow.Author.Needs.{needs}
 use Rattle.wire.proofs.Cursor.read_u32.Statement.{statement}
 use Rattle.wire.proofs.Cursor.read_u32.Tie as tie
 use native.Mathlib.Omega.{arith}
 use denote.Ref.{now}
-use Rattle.wire.proofs.Numbers.{word-known, u32-read, u32-cut}
+use Rattle.pieces.proofs.Numbers.{word-known}
+use Rattle.wire.proofs.Numbers.{u32-read, u32-cut}
 
 pub read-u32-spec : {M : Type 1} → statement M
 read-u32-spec =
@@ -13,5 +15,5 @@ read-u32-spec =
     (λ c. search needs)
     (λ c. omega (arith, word-known 4 (now (c .before .before .before .before .before .args .s)) (c .before .before .before .before .before .args .self .at) _ (c .before .before .before .four-at .ensures) _ (c .before .small .given .1)))
     (λ c. search needs)
-    (λ c. search u32-read)
+    (λ c. u32-read (now (c .before .before .before .before .before .args .s)) (c .before .before .before .before .before .args .self .at) _ (c .before .before .before .four-at .ensures) _ _ (c .before .small .given .1) (omega arith))
     (λ c. search u32-cut))

@@ -1,9 +1,11 @@
+-- `wire::Cursor::read_u64` meets its contract.
 use borrow.Author.Needs.{needs}
 use Rattle.wire.proofs.Cursor.read_u64.Statement.{statement}
 use Rattle.wire.proofs.Cursor.read_u64.Tie as tie
 use native.Mathlib.Omega.{arith}
 use denote.Ref.{now}
-use Rattle.wire.proofs.Numbers.{number-known, number-read, number-cut}
+use Rattle.pieces.proofs.Numbers.{number-known}
+use Rattle.wire.proofs.Numbers.{number-read, number-cut}
 
 pub read-u64-spec : {M : Type 1} → statement M
 read-u64-spec =
@@ -13,5 +15,5 @@ read-u64-spec =
     (λ c. search needs)
     (λ c. omega (arith, number-known (now (c .before .before .before .before .before .args .s)) (c .before .before .before .before .before .args .self .at) _ (c .before .before .before .number-at .ensures) _ (c .before .n .given .1)))
     (λ c. search needs)
-    (λ c. search number-read)
+    (λ c. number-read (now (c .before .before .before .before .before .args .s)) (c .before .before .before .before .before .args .self .at) _ (c .before .before .before .number-at .ensures) _ _ (c .before .n .given .1) (omega arith))
     (λ c. search number-cut))

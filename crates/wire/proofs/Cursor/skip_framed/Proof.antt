@@ -1,3 +1,4 @@
+-- `wire::Cursor::skip_framed` meets its contract.
 use borrow.Author.Needs.{needs}
 use Rattle.wire.proofs.Cursor.skip_framed.Statement.{statement}
 use Rattle.wire.proofs.Cursor.skip_framed.Tie as tie

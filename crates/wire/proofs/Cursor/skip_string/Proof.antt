@@ -1,3 +1,4 @@
+-- `wire::Cursor::skip_string` meets its contract.
 use borrow.Author.Needs.{needs}
 use Rattle.wire.proofs.Cursor.skip_string.Statement.{statement}
 use Rattle.wire.proofs.Cursor.skip_string.Tie as tie

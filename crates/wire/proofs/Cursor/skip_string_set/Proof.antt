@@ -1,9 +1,10 @@
+-- `wire::Cursor::skip_string_set` meets its contract.
 use borrow.Author.Needs.{needs}
 use Rattle.wire.proofs.Cursor.skip_string_set.Statement.{statement}
 use Rattle.wire.proofs.Cursor.skip_string_set.Tie as tie
 use native.Mathlib.Omega.{arith}
 use denote.Ref.{now}
-use Rattle.wire.proofs.Numbers.{number-known}
+use Rattle.pieces.proofs.Numbers.{number-known}
 use Rattle.wire.proofs.Sets.{skip-set-cut, skip-set-past, skip-set-refused}
 
 pub skip-string-set-spec : {M : Type 1} → statement M

@@ -1,3 +1,4 @@
+-- `codes::handshake::ProtocolVersion::at_least` meets its contract.
 use mathlib.Core.Path.{sym}
 use Rattle.codes.proofs.Versions.{same-major, other-major}
 use Rattle.codes.proofs.handshake.ProtocolVersion.at_least.Statement.{statement}

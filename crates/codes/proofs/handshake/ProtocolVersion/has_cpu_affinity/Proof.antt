@@ -1,3 +1,4 @@
+-- `codes::handshake::ProtocolVersion::has_cpu_affinity` meets its contract.
 use borrow.Author.Needs.{needs}
 use Rattle.codes.proofs.handshake.ProtocolVersion.has_cpu_affinity.Statement.{statement}
 use Rattle.codes.proofs.handshake.ProtocolVersion.has_cpu_affinity.Tie as tie

@@ -1,3 +1,4 @@
+-- `codes::handshake::ProtocolVersion::has_features` meets its contract.
 use borrow.Author.Needs.{needs}
 use Rattle.codes.proofs.handshake.ProtocolVersion.has_features.Statement.{statement}
 use Rattle.codes.proofs.handshake.ProtocolVersion.has_features.Tie as tie

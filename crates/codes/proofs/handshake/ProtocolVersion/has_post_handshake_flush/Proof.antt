@@ -1,3 +1,4 @@
+-- `codes::handshake::ProtocolVersion::has_post_handshake_flush` meets its contract.
 use borrow.Author.Needs.{needs}
 use Rattle.codes.proofs.handshake.ProtocolVersion.has_post_handshake_flush.Statement.{statement}
 use Rattle.codes.proofs.handshake.ProtocolVersion.has_post_handshake_flush.Tie as tie

@@ -1,3 +1,4 @@
+-- `codes::handshake::ProtocolVersion::has_reserve_space` meets its contract.
 use borrow.Author.Needs.{needs}
 use Rattle.codes.proofs.handshake.ProtocolVersion.has_reserve_space.Statement.{statement}
 use Rattle.codes.proofs.handshake.ProtocolVersion.has_reserve_space.Tie as tie

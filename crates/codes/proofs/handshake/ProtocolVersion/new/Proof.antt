@@ -1,3 +1,4 @@
+-- `codes::handshake::ProtocolVersion::new` meets its contract.
 use mathlib.Core.Path.{refl}
 use Rattle.codes.proofs.handshake.ProtocolVersion.new.Statement.{statement}
 use Rattle.codes.proofs.handshake.ProtocolVersion.new.Tie as tie

@@ -1,3 +1,4 @@
+-- `codes::handshake::ProtocolVersion::since` meets its contract.
 use mathlib.Core.Path.{ap, _∙_}
 use borrow.Author.Needs.{needs}
 use Rattle.layouts.specs.Primitive.{atLeast}

@@ -1,3 +1,4 @@
+-- `codes::stderr::StderrCode::from_u64` meets its contract.
 use mathlib.Core.Path.{sym}
 use Rattle.codes.specs.declared.stderr.StderrCode.the-variants.{Next, Read, Write, Last, Error, StartActivity, StopActivity, Result}
 use Rattle.codes.proofs.Messages.{code-of, code-none, others}

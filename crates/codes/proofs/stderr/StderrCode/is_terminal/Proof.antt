@@ -1,3 +1,4 @@
+-- `codes::stderr::StderrCode::is_terminal` meets its contract.
 use borrow.Author.Needs.{needs}
 use Rattle.codes.proofs.Messages.{by-number}
 use Rattle.codes.proofs.stderr.StderrCode.is_terminal.Statement.{statement}

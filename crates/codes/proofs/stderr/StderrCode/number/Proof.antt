@@ -1,3 +1,4 @@
+-- `codes::stderr::StderrCode::number` meets its contract.
 use mathlib.Core.Path.{sym, ap}
 use borrow.Author.Needs.{needs}
 use Rattle.codes.specs.Stderr.{codeNumber}

@@ -1,0 +1,5 @@
+pub mod Ways
+pub mod Quiet
+pub mod Left
+pub mod Whole
+pub mod Unique

@@ -1,0 +1,19 @@
+use borrow.Author.Needs.{needs}
+use Rattle.handshake.proofs.negotiated.Statement.{statement}
+use Rattle.handshake.proofs.negotiated.Tie as tie
+use Rattle.codes.specs.Handshake.{versionOf}
+use Rattle.handshake.proofs.Ways.{first-smaller, second-smaller}
+
+returns : tie.Need-returns
+returns c = second-smaller (versionOf (c .before .before .args .v)) (versionOf (c .before .before .args .w)) _ (c .before .at-least .ensures) (c .if1 .taken)
+
+returns-2 : tie.Need-returns-2
+returns-2 c = first-smaller (versionOf (c .before .before .args .v)) (versionOf (c .before .before .args .w)) _ (c .before .at-least .ensures) (c .if1 .left)
+
+pub negotiated-spec : {M : Type 1} → statement M
+negotiated-spec =
+    tie.close
+    (tie.spec
+    (λ c κs. search needs)
+    returns
+    returns-2)

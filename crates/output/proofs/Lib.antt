@@ -1,0 +1,3 @@
+-- Laws and uniqueness for the writers above.
+pub mod Laws
+pub mod Unique

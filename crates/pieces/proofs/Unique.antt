@@ -1,0 +1,93 @@
+-- Each public contract has one answer: two that meet it are equal. `Post` is what Rattle reads off the source.
+use Prim.Native.Nat.{ℕ}
+use mathlib.Core.Path.{_≡_, refl, sym, _∙_, ap}
+use contract.Lifetimes.{Lfts}
+use borrow.Fn.Kinds.{Dens, endedOf}
+use denote.Triple.Clauses.{AtExit}
+use Rattle.layouts.specs.Primitive.{Result, ok, refused}
+use Rattle.layouts.specs.Pieces.{Num, value, short, Text, whole, cut, bad, Chunk, part, last, wrong}
+use Rattle.number.specs.declared.Number.{Number}
+use Rattle.number.specs.declared.Number.the-variants.{Value, Short}
+use Rattle.pieces.specs.Pieces.{Span, numRead, textRead, chunkRead, judgedRead}
+use Rattle.pieces.specs.declared.Text as T
+use Rattle.pieces.specs.declared.Text.the-variants.{Whole, Half, Bad}
+use Rattle.pieces.specs.declared.Chunk as C
+use Rattle.pieces.specs.declared.Chunk.the-variants.{Part, Last, Wrong}
+use Rattle.pieces.specs.declared.Judged.{Judged}
+use Rattle.pieces.specs.declared.Judged.the-variants.{Fine, Refused}
+use Rattle.pieces.proofs.number_at.Reads as number-at
+use Rattle.pieces.proofs.number_at.Kinds as number-at-kinds
+use Rattle.pieces.proofs.four_at.Reads as four-at
+use Rattle.pieces.proofs.four_at.Kinds as four-at-kinds
+use Rattle.pieces.proofs.padding.Reads as padding
+use Rattle.pieces.proofs.padding.Kinds as padding-kinds
+use Rattle.pieces.proofs.text_at.Reads as text-at
+use Rattle.pieces.proofs.text_at.Kinds as text-at-kinds
+use Rattle.pieces.proofs.chunk_at.Reads as chunk-at
+use Rattle.pieces.proofs.chunk_at.Kinds as chunk-at-kinds
+use Rattle.pieces.proofs.string_at.Reads as string-at
+use Rattle.pieces.proofs.string_at.Kinds as string-at-kinds
+
+-- an answer is told by its meaning, where a function leads back from it
+pub told : {A B : Type 0} (f : A → B) (g : B → A) → ((a : A) → g (f a) ≡ a) → {b : B} (x y : A) → f x ≡ b → f y ≡ b → x ≡ y
+told f g h x y p q = sym (h x) ∙ ap g (p ∙ sym q) ∙ h y
+
+abbrev numberBack : Num → Number
+numberBack (value n) = Value n
+numberBack short = Short
+
+num-back : (r : Number) → numberBack (numRead r) ≡ r
+num-back (Value n) = refl
+num-back Short = refl
+
+abbrev textBack : Text → T.Text
+textBack (whole start len next) = Whole start len next
+textBack (cut start len) = Half start len
+textBack (bad which place) = Bad which place
+
+text-back : (r : T.Text) → textBack (textRead r) ≡ r
+text-back (Whole start len next) = refl
+text-back (Half start len) = refl
+text-back (Bad which place) = refl
+
+abbrev chunkBack : Chunk → C.Chunk
+chunkBack (part start len next) = Part start len next
+chunkBack (last next) = Last next
+chunkBack (wrong which place) = Wrong which place
+
+chunk-back : (r : C.Chunk) → chunkBack (chunkRead r) ≡ r
+chunk-back (Part start len next) = refl
+chunk-back (Last next) = refl
+chunk-back (Wrong which place) = refl
+
+pub number-at-unique : (κs : Lfts 1) (a : Dens κs number-at-kinds.ps) (r r′ : Number) (x x′ : AtExit (endedOf 1 number-at-kinds.ps number-at-kinds.r) κs)
+    → number-at.Post κs a r x → number-at.Post κs a r′ x′ → r ≡ r′
+number-at-unique κs a r r′ x x′ p q = told numRead numberBack num-back r r′ p q
+
+abbrev judgedBack : Result Span → Judged
+judgedBack (ok p) = Fine (p .start) (p .len) (p .ends)
+judgedBack (refused which place stream) = Refused which place
+
+judged-back : (r : Judged) → judgedBack (judgedRead r) ≡ r
+judged-back (Fine start len next) = refl
+judged-back (Refused which place) = refl
+
+pub four-at-unique : (κs : Lfts 1) (a : Dens κs four-at-kinds.ps) (r r′ : Number) (x x′ : AtExit (endedOf 1 four-at-kinds.ps four-at-kinds.r) κs)
+    → four-at.Post κs a r x → four-at.Post κs a r′ x′ → r ≡ r′
+four-at-unique κs a r r′ x x′ p q = told numRead numberBack num-back r r′ p q
+
+pub string-at-unique : (κs : Lfts 1) (a : Dens κs string-at-kinds.ps) (r r′ : Judged) (x x′ : AtExit (endedOf 1 string-at-kinds.ps string-at-kinds.r) κs)
+    → string-at.Post κs a r x → string-at.Post κs a r′ x′ → r ≡ r′
+string-at-unique κs a r r′ x x′ p q = told judgedRead judgedBack judged-back r r′ p q
+
+pub text-at-unique : (κs : Lfts 1) (a : Dens κs text-at-kinds.ps) (r r′ : T.Text) (x x′ : AtExit (endedOf 1 text-at-kinds.ps text-at-kinds.r) κs)
+    → text-at.Post κs a r x → text-at.Post κs a r′ x′ → r ≡ r′
+text-at-unique κs a r r′ x x′ p q = told textRead textBack text-back r r′ p q
+
+pub chunk-at-unique : (κs : Lfts 1) (a : Dens κs chunk-at-kinds.ps) (r r′ : C.Chunk) (x x′ : AtExit (endedOf 1 chunk-at-kinds.ps chunk-at-kinds.r) κs)
+    → chunk-at.Post κs a r x → chunk-at.Post κs a r′ x′ → r ≡ r′
+chunk-at-unique κs a r r′ x x′ p q = told chunkRead chunkBack chunk-back r r′ p q
+
+pub padding-unique : (κs : Lfts 0) (a : Dens κs padding-kinds.ps) (r r′ : ℕ) (x x′ : AtExit (endedOf 0 padding-kinds.ps padding-kinds.r) κs)
+    → padding.Post κs a r x → padding.Post κs a r′ x′ → r ≡ r′
+padding-unique κs a r r′ x x′ p q = p .0 ∙ sym (q .0)

@@ -1,0 +1,19 @@
+-- `pieces::four_at` meets its contract: by what `number::read_four` answers of the part.
+use borrow.Author.Needs.{needs}
+use Rattle.pieces.proofs.four_at.Statement.{statement}
+use Rattle.pieces.proofs.four_at.Tie as tie
+use mathlib.Core.Path.{_∙_, ap}
+use denote.Ref.{now}
+use Rattle.pieces.specs.Pieces.{numRead}
+use Rattle.pieces.proofs.Numbers.{four-part, four-past}
+
+pub four-at-spec : {M : Type 1} → statement M
+four-at-spec =
+    tie.close
+    (tie.spec
+    (λ c. search needs)
+    (λ c. search needs)
+    (λ c. search needs)
+    (λ c κs. search needs)
+    (λ c. ap numRead (c .read-four .ensures) ∙ four-part (now (c .before .before .before .before .args .s)) (c .before .before .before .before .args .at) (c .before .before .if1 .taken))
+    (λ c. four-past (now (c .before .before .args .s)) (c .before .before .args .at) (c .if1 .left)))

@@ -1,0 +1,21 @@
+-- `pieces::number_at` meets its contract: by what `number::read` answers of the part.
+use borrow.Author.Needs.{needs}
+use Rattle.pieces.proofs.number_at.Statement.{statement}
+use Rattle.pieces.proofs.number_at.Tie as tie
+use native.Mathlib.Omega.{arith}
+use mathlib.Core.Path.{sym, _∙_, ap}
+use denote.Ref.{now}
+use Rattle.layouts.proofs.Views.{num-short}
+use Rattle.pieces.specs.Pieces.{numRead}
+use Rattle.pieces.proofs.Numbers.{number-part}
+
+pub number-at-spec : {M : Type 1} → statement M
+number-at-spec =
+    tie.close
+    (tie.spec
+    (λ c. sym (num-short _ _ _ (omega arith)))
+    (λ c. search needs)
+    (λ c. search needs)
+    (λ c. search needs)
+    (λ c κs. search needs)
+    (λ c. ap numRead (c .read .ensures) ∙ number-part (now (c .before .before .before .before .args .s)) (c .before .before .before .before .args .at) (c .before .before .if1 .left)))

@@ -1,0 +1,63 @@
+-- What the code finds at a place: the same as `layouts` says, one piece at a time.
+use Prim.Native.Nat.{ℕ, _+_}
+use mathlib.Core.List.{List}
+use mathlib.Core.Bool.{Bool, true, false}
+use lib.ListN.{length}
+use lib.Dec.{leb}
+use Rattle.layouts.specs.Primitive.{pick, littleAt, numberAt, badText, Result, ok, refused}
+use Rattle.layouts.specs.Shape.{Role, passed, kept}
+use Rattle.layouts.specs.Pieces.{Num, value, short, Text, whole, cut, bad, Chunk, part, last, wrong, textOf}
+use Rattle.layouts.specs.Judge.{notText, halfTaken}
+use Rattle.number.specs.declared.Number.{Number}
+use Rattle.number.specs.declared.Number.the-variants.{Value, Short}
+use Rattle.pieces.specs.declared.Text as T
+use Rattle.pieces.specs.declared.Text.the-variants.{Whole, Half, Bad}
+use Rattle.pieces.specs.declared.Chunk as C
+use Rattle.pieces.specs.declared.Chunk.the-variants.{Part, Last, Wrong}
+use Rattle.pieces.specs.declared.Judged.{Judged}
+use Rattle.pieces.specs.declared.Judged.the-variants.{Fine, Refused}
+
+abbrev pub numRead : Number → Num
+numRead (Value n) = value n
+numRead Short = short
+
+-- a number of k bytes at a place
+abbrev pub wordAt : (k : ℕ) → List ℕ → (at : ℕ) → Num
+wordAt k s at = pick (leb (at + k) (length s)) (value (littleAt k s at)) short
+
+abbrev pub textRead : T.Text → Text
+textRead (Whole start len next) = whole start len next
+textRead (Half start len) = cut start len
+textRead (Bad which place) = bad which place
+
+abbrev pub chunkRead : C.Chunk → Chunk
+chunkRead (Part start len next) = part start len next
+chunkRead (Last next) = last next
+chunkRead (Wrong which place) = wrong which place
+
+-- a string, by start and length of its contents, and the place after it
+pub record Span : Type 0 where
+  pub start : ℕ
+  pub len : ℕ
+  pub ends : ℕ
+
+abbrev pub span : (start len ends : ℕ) → Span
+span start len ends = record { start = start; len = len; ends = ends }
+
+abbrev pub judgedRead : Judged → Result Span
+judgedRead (Fine start len next) = ok (span start len next)
+judgedRead (Refused which place) = refused which place 0
+
+-- a string that is decoded is kept, another is passed
+abbrev pub roleOf : (decoded : Bool) → Role
+roleOf true = kept
+roleOf false = passed
+
+-- a string as it is judged: 3 at its contents before 1 at its padding
+unfoldable pub spanOf : List ℕ → Role → Text → Result Span
+spanOf s m (whole start len next) = pick (notText s m start len) (refused badText start 0) (ok (span start len next))
+spanOf s m (cut start len) = halfTaken s m start len
+spanOf s m (bad which place) = refused which place 0
+
+unfoldable pub stringAt : List ℕ → (decoded : Bool) → (at : ℕ) → Result Span
+stringAt s decoded at = spanOf s (roleOf decoded) (textOf (length s) (numberAt s at) at)

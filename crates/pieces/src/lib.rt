@@ -1,0 +1,199 @@
+// One piece at a place of a stream: a number, a string, a chunk. A part is handed on only after a test that the stream has it, so no place is too large.
+ghost use mathlib.Core.Path.{_≡_};
+ghost use Prim.Native.Nat.{_+_, _<_, _≤_};
+ghost use mathlib.Core.Bool.{not};
+ghost use lib.ListN.{length};
+ghost use Rattle.layouts.specs.Primitive.{numberAt, padOf};
+ghost use Rattle.layouts.specs.Pieces.{textOf, chunkOf};
+ghost use Rattle.layouts.specs.Judge.{notText};
+ghost use Rattle.layouts.specs.Calls.{peekNumber};
+ghost use Rattle.pieces.specs.Pieces.{numRead, wordAt, textRead, chunkRead, judgedRead, roleOf, stringAt};
+use number::Number;
+
+const MAX_WIRE_STRING_LEN: u64 = 268435456;
+
+// Refusals: a piece needs more bytes than remain, a length above the limit, contents that are no text.
+pub const CUT_SHORT: u64 = 1;
+
+const TOO_LONG: u64 = 2;
+
+pub const BAD_TEXT: u64 = 3;
+
+// A string whose contents are whole and whose padding is not is a case of its own: its text is judged before its padding.
+pub enum Text {
+    Whole {
+        start: usize,
+        len: usize,
+        next: usize,
+    },
+    Half {
+        start: usize,
+        len: usize,
+    },
+    Bad {
+        which: u64,
+        place: usize,
+    },
+}
+
+// A string that was judged: fine, by start and length of its contents and the place after it.
+pub enum Judged {
+    Fine {
+        start: usize,
+        len: usize,
+        next: usize,
+    },
+    Refused {
+        which: u64,
+        place: usize,
+    },
+}
+
+pub enum Chunk {
+    Part {
+        start: usize,
+        len: usize,
+        next: usize,
+    },
+    Last(usize),
+    Wrong {
+        which: u64,
+        place: usize,
+    },
+}
+
+pub fn number_at(s: &[u8], at: usize) -> Number
+    ensures { λ r. ⌜ numRead r ≡ peekNumber (now (s .entry)) at ⌝ }
+{
+    if s.len() < at {
+        return Number::Short;
+    }
+    number::read(&s[at..])
+}
+
+pub fn four_at(s: &[u8], at: usize) -> Number
+    ensures { λ r. ⌜ numRead r ≡ wordAt 4 (now (s .entry)) at ⌝ }
+{
+    if at <= s.len() {
+        return number::read_four(&s[at..]);
+    }
+    Number::Short
+}
+
+pub fn padding(len: usize) -> usize
+    ensures { λ r. ⌜ (r ≡ padOf len) × (r < 8) ⌝ }
+{
+    (8 - len % 8) % 8
+}
+
+pub fn text_at(s: &[u8], at: usize) -> Text
+    ensures { λ r. ⌜ textRead r ≡ textOf (length (now (s .entry))) (numberAt (now (s .entry)) at) at ⌝ }
+{
+    match number_at(s, at) {
+        Number::Short => Text::Bad {
+            which: CUT_SHORT,
+            place: at,
+        },
+        Number::Value(n) => {
+            if MAX_WIRE_STRING_LEN < n {
+                return Text::Bad {
+                    which: TOO_LONG,
+                    place: at,
+                };
+            }
+            let len = n as usize;
+            let start = at + 8;
+            let left = s.len() - start;
+            if left < len {
+                return Text::Bad {
+                    which: CUT_SHORT,
+                    place: start,
+                };
+            }
+            let pad = padding(len);
+            if left - len < pad {
+                return Text::Half { start, len };
+            }
+            let next = start + len + pad;
+            Text::Whole { start, len, next }
+        }
+    }
+}
+
+pub fn chunk_at(s: &[u8], at: usize) -> Chunk
+    ensures { λ r. ⌜ chunkRead r ≡ chunkOf (length (now (s .entry))) (numberAt (now (s .entry)) at) at ⌝ }
+{
+    match number_at(s, at) {
+        Number::Short => Chunk::Wrong {
+            which: CUT_SHORT,
+            place: at,
+        },
+        Number::Value(n) => {
+            let body = at + 8;
+            if n == 0 {
+                return Chunk::Last(body);
+            }
+            if MAX_WIRE_STRING_LEN < n {
+                return Chunk::Wrong {
+                    which: TOO_LONG,
+                    place: at,
+                };
+            }
+            let len = n as usize;
+            if s.len() - body < len {
+                return Chunk::Wrong {
+                    which: CUT_SHORT,
+                    place: body,
+                };
+            }
+            let next = body + len;
+            Chunk::Part {
+                start: body,
+                len,
+                next,
+            }
+        }
+    }
+}
+
+// Only a string that is decoded has its text judged.
+fn is_fine(s: &[u8], start: usize, len: usize, decoded: bool) -> bool
+    requires { ⌜ start + len ≤ length (now s) ⌝ }
+    ensures { λ r. ⌜ r ≡ not (notText (now (s .entry)) (roleOf decoded) start len) ⌝ }
+{
+    if decoded {
+        let end = start + len;
+        return text::is_text(&s[start..end]);
+    }
+    true
+}
+
+// A string with its text judged where it is decoded: before the padding, after the contents.
+pub fn string_at(s: &[u8], at: usize, decoded: bool) -> Judged
+    ensures { λ r. ⌜ judgedRead r ≡ stringAt (now (s .entry)) decoded at ⌝ }
+{
+    match text_at(s, at) {
+        Text::Whole { start, len, next } => {
+            if is_fine(s, start, len, decoded) {
+                return Judged::Fine { start, len, next };
+            }
+            Judged::Refused {
+                which: BAD_TEXT,
+                place: start,
+            }
+        }
+        Text::Half { start, len } => {
+            if is_fine(s, start, len, decoded) {
+                return Judged::Refused {
+                    which: CUT_SHORT,
+                    place: start + len,
+                };
+            }
+            Judged::Refused {
+                which: BAD_TEXT,
+                place: start,
+            }
+        }
+        Text::Bad { which, place } => Judged::Refused { which, place },
+    }
+}

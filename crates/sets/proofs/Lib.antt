@@ -1,0 +1,3 @@
+-- `Unique` says that the contract leaves one answer; `Sets` serves the functions' proofs.
+pub mod Sets
+pub mod Unique

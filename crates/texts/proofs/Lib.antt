@@ -1,0 +1,3 @@
+-- `Unique` says that the contracts leave one answer; `Decimal` serves the functions' proofs.
+pub mod Decimal
+pub mod Unique
