@@ -3,3 +3,4 @@ pub mod Quiet
 pub mod Left
 pub mod Whole
 pub mod Unique
+pub mod Demands

@@ -1,3 +1,4 @@
 pub mod Going
 pub mod Block
 pub mod Unique
+pub mod Demands
