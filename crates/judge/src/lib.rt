@@ -10,7 +10,7 @@ ghost use Rattle.layouts.specs.Record.{blank, withNumber, withCount, withEntrie
 ghost use Rattle.layouts.specs.Judge.{notText, textTaken, halfTaken, chunkTaken, judgeOf};
 ghost use Rattle.table.specs.Table.{roleOf, slotOf};
 ghost use Rattle.walk.specs.Walk.{layoutPieces};
-ghost use Rattle.judge.specs.Judged.{taken, judgedAs, skipped};
+ghost use Rattle.judge.specs.Judged.{taken, judgedAs, answerAs, skipped};
 use layouts::Record;
 use walk::Step;
 
@@ -72,7 +72,7 @@ pub fn empty() -> Record
     }
 }
 
-pub fn refuse(which: u64, place: usize) -> Judged
+fn refuse(which: u64, place: usize) -> Judged
     ensures { λ r. ⌜ r ≡ judgedAs (refused which place 0) ⌝ }
 {
     Judged {
@@ -83,6 +83,23 @@ pub fn refuse(which: u64, place: usize) -> Judged
         },
         found: empty(),
         ends: 0,
+    }
+}
+
+// The same as a whole answer, of a stream that is not a handshake's.
+pub fn refused_answer(which: u64, place: usize) -> Answer
+    ensures { λ r. ⌜ r ≡ answerAs (refused which place 0) ⌝ }
+{
+    Answer {
+        outcome: Outcome::Refused {
+            which,
+            place,
+            stream: 0,
+        },
+        kind: 0,
+        ends: 0,
+        ends2: 0,
+        found: empty(),
     }
 }
 

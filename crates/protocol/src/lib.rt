@@ -1,7 +1,7 @@
 // Arguments and replies by operation, under the names of nix-wire's protocol.rs. Each call takes the part of the stream that starts where the last one
 // ended. Reading judges first, in a walk without writes, and fills only then, so a refusal changes no lent memory.
 ghost use mathlib.Core.Path.{_≡_};
-ghost use Rattle.layouts.specs.Primitive.{version, refused};
+ghost use Rattle.layouts.specs.Primitive.{version};
 ghost use Rattle.layouts.specs.Pieces.{run};
 ghost use Rattle.layouts.specs.Judge.{entriesOf, payloadOf, lentAfter};
 ghost use Rattle.layouts.specs.Calls.{argumentsTree, skippedTree, replyTree, skipOpArgs, skipDaemonResult, entriesAfter, payloadAfter};
@@ -23,22 +23,6 @@ pub struct Arguments {
     pub count: u64,
     pub start: u64,
     pub len: u64,
-}
-
-fn refuse(which: u64) -> Answer
-    ensures { λ r. ⌜ r ≡ answerAs (refused which 0 0) ⌝ }
-{
-    Answer {
-        outcome: Outcome::Refused {
-            which,
-            place: 0,
-            stream: 0,
-        },
-        kind: 0,
-        ends: 0,
-        ends2: 0,
-        found: judge::empty(),
-    }
 }
 
 // Where nothing is kept no second walk is needed.
@@ -130,7 +114,7 @@ pub fn read_op_args(
 {
     let f = table::find(op);
     match f {
-        Found::Unknown => refuse(UNKNOWN_OPERATION),
+        Found::Unknown => judge::refused_answer(UNKNOWN_OPERATION, 0),
         Found::Row(row) => read(
             s,
             major,
@@ -201,7 +185,7 @@ pub fn read_daemon_result(
 {
     let f = table::find(op);
     match f {
-        Found::Unknown => refuse(UNKNOWN_OPERATION),
+        Found::Unknown => judge::refused_answer(UNKNOWN_OPERATION, 0),
         Found::Row(row) => read(s, major, minor, row.reply, row.reply_kind, entries, payload),
     }
 }

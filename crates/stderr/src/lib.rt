@@ -2,7 +2,7 @@
 ghost use mathlib.Core.Path.{_≡_};
 ghost use Prim.Native.Nat.{_/_};
 ghost use lib.ListN.{length};
-ghost use Rattle.layouts.specs.Primitive.{refused, onward};
+ghost use Rattle.layouts.specs.Primitive.{onward};
 ghost use Rattle.layouts.specs.Pieces.{run};
 ghost use Rattle.layouts.specs.Judge.{judgeOf, entriesOf, lentAfter};
 ghost use Rattle.layouts.specs.Stderr.{messageOf, errorBlock, stderrLoop, stderrAnswer, readStderrLoop, readStderrWithError, errorPieces};
@@ -139,28 +139,12 @@ fn answer(ends: usize, found: Record) -> Answer
     }
 }
 
-fn refuse(which: u64, place: usize) -> Answer
-    ensures { λ r. ⌜ r ≡ answerAs (refused which place 0) ⌝ }
-{
-    Answer {
-        outcome: Outcome::Refused {
-            which,
-            place,
-            stream: 0,
-        },
-        kind: 0,
-        ends: 0,
-        ends2: 0,
-        found: judge::empty(),
-    }
-}
-
 pub fn read_stderr_loop(s: &[u8]) -> Answer
     ensures { λ r. ⌜ r ≡ answerAs (readStderrLoop (now (s .entry))) ⌝ }
 {
     let l = stderr_loop(s);
     match l {
-        Stopped::Refused { which, place } => refuse(which, place),
+        Stopped::Refused { which, place } => judge::refused_answer(which, place),
         Stopped::Stops {
             messages,
             code,
@@ -204,7 +188,7 @@ pub fn read_stderr_with_error(s: &[u8], entries: &mut [u64]) -> Answer
 {
     let l = stderr_loop(s);
     match l {
-        Stopped::Refused { which, place } => refuse(which, place),
+        Stopped::Refused { which, place } => judge::refused_answer(which, place),
         Stopped::Stops {
             messages,
             code,

@@ -18,7 +18,7 @@ returns c = let v = version (c .before .before .before .before .before .before .
     let e = unknown-refuses (c .before .before .before .before .before .before .before .args .op) _ (c .before .before .before .find .ensures) (c .before .enum-told .given .1) .reply v in
     let slots = length (now (c .before .before .before .before .before .before .before .args .entries)) / 2 in
     let room = length (now (c .before .before .before .before .before .before .before .args .payload)) in
-    (unknown-answer v k slots room (now (c .before .before .before .before .before .before .before .args .s)) _ e _ (c .refuse .ensures), (unknown-lent v k slots room (now (c .before .before .before .before .before .before .before .args .s)) _ e _ _, unknown-lent v k slots room (now (c .before .before .before .before .before .before .before .args .s)) _ e _ _))
+    (unknown-answer v k slots room (now (c .before .before .before .before .before .before .before .args .s)) _ e _ (c .refused-answer .ensures), (unknown-lent v k slots room (now (c .before .before .before .before .before .before .before .args .s)) _ e _ _, unknown-lent v k slots room (now (c .before .before .before .before .before .before .before .args .s)) _ e _ _))
 
 returns-2 : tie.Need-returns-2
 unfolding readDaemonResult
