@@ -1,15 +1,20 @@
 -- What `layouts` says, as the code answers it.
-use Prim.Native.Nat.{ℕ}
+use Prim.Native.Nat.{ℕ, _≤_}
+use mathlib.Core.List.{List}
 use Rattle.layouts.specs.declared.Record.{Record}
 use Rattle.layouts.specs.Primitive.{Result, ok, refused}
 use Rattle.layouts.specs.Record.{blank}
 use Rattle.layouts.specs.Judge.{Ended}
+use Rattle.layouts.specs.Pieces.{skipOf}
 use Rattle.layouts.specs.Calls as L
+use Rattle.walk.specs.Walk.{rest, fuel}
 use Rattle.judge.specs.declared.Outcome.the-variants.{Fine, Refused}
 use Rattle.judge.specs.declared.Judged.{Judged}
 use Rattle.judge.specs.declared.Answer.{Answer}
 use Rattle.judge.specs.declared.Taken.{Taken}
 use Rattle.judge.specs.declared.Taken.the-variants as T
+use Rattle.judge.specs.declared.Swept.{Swept}
+use Rattle.judge.specs.declared.Swept.the-variants as W
 use Rattle.judge.specs.declared.Skipped.{Skipped}
 use Rattle.judge.specs.declared.Skipped.the-variants as S
 
@@ -30,3 +35,12 @@ skipped (S.Refused which place) = refused which place 0
 abbrev pub taken : (ℕ → Record) → Taken → Result Record
 taken with (T.Fine n) = ok (with n)
 taken with (T.Refused which place) = refused which place 0
+
+-- skipping past the strings that a field has left: to what the rest is skipped to, and no measure grows
+abbrev pub sweptTo : List ℕ → Swept → Result ℕ
+sweptTo s (W.On w) = skipOf (rest s w)
+sweptTo s (W.Refused which place) = refused which place 0
+
+abbrev pub NoMore : List ℕ → (fuel : ℕ) → Swept → Type 0
+NoMore s f (W.On w) = fuel s w ≤ f
+NoMore s f (W.Refused which place) = Unit {0}

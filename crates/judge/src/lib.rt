@@ -9,10 +9,13 @@ ghost use Rattle.layouts.specs.Pieces.{skipOf};
 ghost use Rattle.layouts.specs.Record.{blank, withNumber, withCount, withEntries, withPayload, noted};
 ghost use Rattle.layouts.specs.Judge.{notText, textTaken, halfTaken, chunkTaken, judgeOf};
 ghost use Rattle.table.specs.Table.{roleOf, slotOf};
-ghost use Rattle.walk.specs.Walk.{layoutPieces};
-ghost use Rattle.judge.specs.Judged.{taken, judgedAs, answerAs, skipped};
+ghost use Rattle.walk.specs.Walk.{layoutPieces, rest, fuel};
+ghost use Rattle.judge.specs.Judged.{taken, judgedAs, answerAs, skipped, sweptTo, NoMore};
 use layouts::Record;
+use strings::Passed;
 use walk::Step;
+use walk::Todo;
+use walk::Walk;
 
 // Refusals: a piece needs more bytes than remain, contents that are no text, a kept string has no slot, a chunk does not fit in what is left.
 const CUT_SHORT: u64 = 1;
@@ -57,6 +60,12 @@ pub enum Skipped {
 // What a string or chunk makes of the entries, or of the payload, so far.
 enum Taken {
     Fine(usize),
+    Refused { which: u64, place: usize },
+}
+
+// The walk past the strings that a field has left, or the first refusal among them.
+enum Swept {
+    On(Walk),
     Refused { which: u64, place: usize },
 }
 
@@ -308,6 +317,39 @@ pub fn judge(
     }
 }
 
+// All strings that a field has left, in one go.
+fn pass_strings(s: &[u8], w: Walk) -> Swept
+    ensures law { λ r. ⌜ skipOf (rest (now (s .entry)) w) ≡ sweptTo (now (s .entry)) r ⌝ }
+    ensures falls { λ r. ⌜ NoMore (now (s .entry)) (fuel (now (s .entry)) w) r ⌝ }
+{
+    let todo = w.todo;
+    match todo {
+        Todo::Strings {
+            role: _,
+            pend,
+            extra,
+            left,
+        } => {
+            let flow = w.flow;
+            let k = strings::pass(s, w.at, pend, extra, left);
+            match k {
+                Passed::Refused { which, place } => Swept::Refused { which, place },
+                Passed::Past(at) => {
+                    let v = Walk {
+                        at,
+                        todo: Todo::Fields,
+                        flow,
+                    };
+                    Swept::On(v)
+                }
+            }
+        }
+        Todo::Fields => Swept::On(w),
+        Todo::Number => Swept::On(w),
+        Todo::Chunks => Swept::On(w),
+    }
+}
+
 // Where the layout ends. No contents are looked at.
 pub fn skip(s: &[u8], at: usize, major: u16, minor: u8, run: usize) -> Skipped
     ensures { λ r. ⌜ skipped r ≡ skipOf (layoutPieces (version major minor) run (now (s .entry)) at) ⌝ }
@@ -322,7 +364,15 @@ pub fn skip(s: &[u8], at: usize, major: u16, minor: u8, run: usize) -> Skipped
                 place: _,
                 next,
             } => {
-                w = next;
+                let k = pass_strings(s, next);
+                match k {
+                    Swept::Refused { which, place } => {
+                        return Skipped::Refused { which, place };
+                    }
+                    Swept::On(v) => {
+                        w = v;
+                    }
+                }
             }
             Step::Text {
                 role: _,

@@ -9,13 +9,18 @@ use Rattle.layouts.specs.Primitive.{version}
 use Rattle.layouts.specs.Pieces.{skipOf}
 use Rattle.walk.specs.Walk.{rest, fuel, layoutPieces}
 use Rattle.walk.proofs.Measure.{falls-by}
-use Rattle.judge.proofs.Judging.{skip-number, skip-text, skip-chunk, skip-quiet, skip-half, skip-end, skip-fault}
+use Rattle.judge.proofs.Judging.{skip-number, skip-text, skip-chunk, skip-quiet, skip-half, skip-end, skip-fault, skip-swept, skip-cut, swept-falls}
 
 abbrev Inv-loop : tie.InvT-loop
 Inv-loop s at major minor run w₀ w = skipOf (rest s w) ≡ skipOf (layoutPieces (version major minor) run s at)
 
 abbrev μ-loop : tie.MeasureT-loop
 μ-loop s at major minor run w₀ w = fuel s w
+
+loop-less : tie.Need-loop-less Inv-loop μ-loop
+loop-less c = let f = falls-by (now (c .before .before .before .before .before .before .before .before .before .before .before .args .s)) (fuel (now (c .before .before .before .before .before .before .before .before .before .before .before .args .s)) (c .before .before .before .before .before .before .before .before .loop .w)) (c .before .before .before .before .before .before .before .next .result) _ (c .before .before .before .before .before .st .given .1) (c .before .before .before .before .before .before .before .next .ensures .1) in
+    let g = swept-falls (now (c .before .before .before .before .before .before .before .before .before .before .before .args .s)) _ (c .before .before .before .pass-strings .result) _ (c .before .before .before .pass-strings .ensures .1) (c .before .k2 .given .1) in
+    omega (arith, f, g)
 
 pub skip-spec : {M : Type 1} → statement M
 skip-spec =
@@ -27,8 +32,12 @@ skip-spec =
     (λ c. ap skipOf (c .begin .ensures (now (c .before .before .args .s))))
     (λ c κs. search needs)
     (λ c. search needs)
-    (λ c. falls-by (now (c .before .before .before .before .before .before .before .args .s)) (fuel (now (c .before .before .before .before .before .before .before .args .s)) (c .before .before .before .before .loop .w)) (c .before .before .before .next .result) _ (c .before .st .given .1) (c .before .before .before .next .ensures .1))
-    (λ c. skip-number (now (c .before .before .before .before .before .before .before .args .s)) _ _ (c .before .before .before .next .ensures .0) _ (c .before .before .before .before .loop .inv) _ _ _ _ (c .before .st .given .1))
+    (λ c κs. search needs)
+    (λ c. search needs)
+    (λ c. skip-cut (now (c .before .before .before .before .before .before .before .before .before .before .before .args .s)) _ (c .before .before .before .pass-strings .result) (c .before .before .before .pass-strings .ensures .0) _ (skip-number (now (c .before .before .before .before .before .before .before .before .before .before .before .args .s)) _ _ (c .before .before .before .before .before .before .before .next .ensures .0) _ (c .before .before .before .before .before .before .before .before .loop .inv) _ _ _ _ (c .before .before .before .before .before .st .given .1)) _ _ (c .before .k .given .1))
+    (λ c. search needs)
+    loop-less
+    (λ c. skip-swept (now (c .before .before .before .before .before .before .before .before .before .before .before .args .s)) _ (c .before .before .before .pass-strings .result) (c .before .before .before .pass-strings .ensures .0) _ (skip-number (now (c .before .before .before .before .before .before .before .before .before .before .before .args .s)) _ _ (c .before .before .before .before .before .before .before .next .ensures .0) _ (c .before .before .before .before .before .before .before .before .loop .inv) _ _ _ _ (c .before .before .before .before .before .st .given .1)) _ (c .before .k2 .given .1))
     (λ c. search needs)
     (λ c. falls-by (now (c .before .before .before .before .before .before .before .args .s)) (fuel (now (c .before .before .before .before .before .before .before .args .s)) (c .before .before .before .before .loop .w)) (c .before .before .before .next .result) _ (c .before .st2 .given .1) (c .before .before .before .next .ensures .1) .0)
     (λ c. skip-text (now (c .before .before .before .before .before .before .before .args .s)) _ _ (c .before .before .before .next .ensures .0) _ (c .before .before .before .before .loop .inv) _ _ _ _ (c .before .st2 .given .1))

@@ -1,0 +1,36 @@
+-- `strings::pass` meets its contract: skipping what is left of the row is skipping the whole.
+use borrow.Author.Needs.{needs}
+use Rattle.strings.proofs.pass.Statement.{statement}
+use Rattle.strings.proofs.pass.Tie as tie
+use denote.Ref.{now}
+use Prim.Native.Nat.{_-_}
+use native.Mathlib.Omega.{arith}
+use lib.ListN.{length}
+use Rattle.strings.proofs.Rows.{Passing, passing-start, passing-end, passing-bad, passing-half, half-within, whole-on, passing-on}
+
+abbrev Inv-loop : tie.InvT-loop
+Inv-loop s from pend extra left at₀ p₀ l₀ at p l = Passing s extra from pend left at p l
+
+abbrev μ-loop : tie.MeasureT-loop
+μ-loop s from pend extra left at₀ p₀ l₀ at p l = length s - at
+
+pub pass-spec : {M : Type 1} → statement M
+pass-spec =
+    tie.close
+    (tie.spec
+    Inv-loop
+    μ-loop
+    (λ c. passing-start (now (c .before .args .s)) (c .before .args .extra) (c .before .args .from) (c .before .args .pend) (c .before .args .left))
+    (λ c κs. search needs)
+    (λ c. search needs)
+    (λ c. (λ m k. passing-end (now (c .before .before .before .before .before .args .s)) _ _ _ _ _ _ _ (c .before .before .before .loop .inv) _ (c .before .before .after-next .ensures) (c .enum-told .given .1) m k, c .before .before .before .loop .inv .on))
+    (λ c. search needs)
+    (λ c κs. search needs)
+    (λ c. search needs)
+    (λ c. (λ m k. passing-bad (now (c .before .before .before .before .before .before .before .before .before .before .args .s)) _ _ _ _ _ _ _ (c .before .before .before .before .before .before .before .before .loop .inv) _ (c .before .before .before .before .before .before .before .after-next .ensures) _ _ (c .before .before .before .before .before .m .given .1) _ (c .before .before .before .text-at .ensures) _ _ (c .before .t .given .1) m k, tt))
+    (λ c. search needs)
+    (λ c. omega (arith, half-within (now (c .before .before .before .before .before .before .before .before .before .before .args .s)) _ _ _ _ _ _ _ (c .before .before .before .before .before .before .before .before .loop .inv) _ (c .before .before .before .before .before .before .before .after-next .ensures) _ _ (c .before .before .before .before .before .m .given .1) _ (c .before .before .before .text-at .ensures) _ _ (c .before .t2 .given .1)))
+    (λ c. (λ m k. passing-half (now (c .before .before .before .before .before .before .before .before .before .before .args .s)) _ _ _ _ _ _ _ (c .before .before .before .before .before .before .before .before .loop .inv) _ (c .before .before .before .before .before .before .before .after-next .ensures) _ _ (c .before .before .before .before .before .m .given .1) _ (c .before .before .before .text-at .ensures) _ _ (c .before .t2 .given .1) m k, tt))
+    (λ c. search needs)
+    (λ c. omega (arith, whole-on (now (c .before .before .before .before .before .before .before .before .before .before .args .s)) _ _ _ _ _ _ _ (c .before .before .before .before .before .before .before .before .loop .inv) _ (c .before .before .before .before .before .before .before .after-next .ensures) _ _ (c .before .before .before .before .before .m .given .1) _ (c .before .before .before .text-at .ensures) _ _ _ (c .before .t3 .given .1)))
+    (λ c. passing-on (now (c .before .before .before .before .before .before .before .before .before .before .args .s)) _ _ _ _ _ _ _ (c .before .before .before .before .before .before .before .before .loop .inv) _ (c .before .before .before .before .before .before .before .after-next .ensures) _ _ (c .before .before .before .before .before .m .given .1) _ (c .before .before .before .text-at .ensures) _ _ _ (c .before .t3 .given .1)))

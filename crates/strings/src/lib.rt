@@ -1,0 +1,82 @@
+// Strings in a row, as a set or pairs leave them to the walk: `pend` of them, and then `left` times `extra` + 1. One loop for all of them: a walk of one
+// piece a call pays for its whole state at each.
+ghost use mathlib.Core.Path.{_≡_};
+ghost use Prim.Native.Nat.{_≤_};
+ghost use lib.ListN.{length};
+ghost use Rattle.layouts.specs.Shape.{Role, Tree, strings, units};
+ghost use Rattle.layouts.specs.Pieces.{run, skipOf};
+ghost use Rattle.strings.specs.Strings.{row, rowAfter, passedOr, PastFrom};
+use pieces::Text;
+
+const CUT_SHORT: u64 = 1;
+
+// Where the row ends, or its first refusal.
+pub enum Passed {
+    Past(usize),
+    Refused { which: u64, place: usize },
+}
+
+// What is left of a row after its next string, if it has one.
+enum More {
+    String { pend: u64, left: u64 },
+    None,
+}
+
+fn after_next(pend: u64, extra: u64, left: u64) -> More
+    ensures { λ r. ⌜ ((m : Role) (k : Unit {0} → Tree) → row m pend extra left k ≡ rowAfter m extra k r) ⌝ }
+{
+    if 0 < pend {
+        return More::String {
+            pend: pend - 1,
+            left,
+        };
+    }
+    if 0 < left {
+        return More::String {
+            pend: extra,
+            left: left - 1,
+        };
+    }
+    More::None
+}
+
+// No contents are looked at.
+pub fn pass(s: &[u8], from: usize, pend: u64, extra: u64, left: u64) -> Passed
+    ensures law { λ r. ⌜ ((m : Role) (k : Unit {0} → Tree) → skipOf (run (row m pend extra left k) (now (s .entry)) from) ≡ passedOr r (λ at. skipOf (run (k tt) (now (s .entry)) at))) ⌝ }
+    ensures on { λ r. ⌜ PastFrom from r ⌝ }
+{
+    let mut at = from;
+    let mut p = pend;
+    let mut l = left;
+    loop {
+        let m = after_next(p, extra, l);
+        match m {
+            More::None => {
+                return Passed::Past(at);
+            }
+            More::String { pend, left } => {
+                let t = pieces::text_at(s, at);
+                match t {
+                    Text::Bad { which, place } => {
+                        return Passed::Refused { which, place };
+                    }
+                    Text::Half { start, len } => {
+                        return Passed::Refused {
+                            which: CUT_SHORT,
+                            place: start + len,
+                        };
+                    }
+                    Text::Whole {
+                        start: _,
+                        len: _,
+                        next,
+                    } => {
+                        at = next;
+                        p = pend;
+                        l = left;
+                    }
+                }
+            }
+        }
+    }
+}
