@@ -1,0 +1,52 @@
+//! `oracle generate SEED COUNT` writes requests for the probe; `oracle answer` reads requests and writes what nix-wire answers, a line for each.
+//! docs/DECISIONS.md, "The probe", has the form of requests and lines.
+mod answer;
+mod conversation;
+mod damage;
+mod dice;
+mod generate;
+mod layouts;
+mod line;
+mod primitives;
+mod request;
+mod stream;
+mod tables;
+
+use request::Request;
+use std::io::{self, BufWriter, Write};
+
+fn generate(seed: u64, count: usize) -> io::Result<()> {
+    let mut out = BufWriter::new(io::stdout().lock());
+    for q in generate::requests(seed).take(count) {
+        q.write(&mut out)?;
+    }
+    out.flush()
+}
+
+// Each line leaves at once: a count outside the domain can abort the process, and the lines before it must not be lost.
+fn answer() -> io::Result<()> {
+    let mut input = io::stdin().lock();
+    let mut out = io::stdout().lock();
+    while let Some(q) = Request::read(&mut input)? {
+        writeln!(out, "{}", answer::answer(&q))?;
+    }
+    Ok(())
+}
+
+fn main() -> io::Result<()> {
+    let words: Vec<String> = std::env::args().skip(1).collect();
+    let words: Vec<&str> = words.iter().map(String::as_str).collect();
+    match words[..] {
+        ["answer"] => answer(),
+        ["generate", seed, count] => match (seed.parse(), count.parse()) {
+            (Ok(seed), Ok(count)) => generate(seed, count),
+            _ => usage(),
+        },
+        _ => usage(),
+    }
+}
+
+fn usage() -> ! {
+    eprintln!("usage: oracle answer | oracle generate SEED COUNT");
+    std::process::exit(2)
+}

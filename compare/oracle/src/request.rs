@@ -1,0 +1,70 @@
+//! A request as it stands in the probe's input.
+use nix_wire::handshake::ProtocolVersion;
+use std::io::{self, Read, Write};
+
+#[derive(Clone, Default)]
+pub struct Request {
+    pub call: u64,
+    pub operation: u64,
+    pub major: u64,
+    pub minor: u64,
+    pub slots: u64,
+    pub room: u64,
+    pub a: Vec<u8>,
+    pub b: Vec<u8>,
+}
+
+impl Request {
+    pub fn version(&self) -> ProtocolVersion {
+        ProtocolVersion::new(self.major as u16, self.minor as u8)
+    }
+
+    pub fn write(&self, out: &mut impl Write) -> io::Result<()> {
+        for x in [
+            self.call,
+            self.operation,
+            self.major,
+            self.minor,
+            self.slots,
+            self.room,
+        ] {
+            out.write_all(&x.to_le_bytes())?;
+        }
+        for s in [&self.a, &self.b] {
+            out.write_all(&(s.len() as u64).to_le_bytes())?;
+            out.write_all(s)?;
+        }
+        Ok(())
+    }
+
+    /// The next request, or None at the end of the input.
+    pub fn read(input: &mut impl Read) -> io::Result<Option<Request>> {
+        let mut first = [0; 8];
+        if input.read(&mut first[..1])? == 0 {
+            return Ok(None);
+        }
+        input.read_exact(&mut first[1..])?;
+        Ok(Some(Request {
+            call: u64::from_le_bytes(first),
+            operation: number(input)?,
+            major: number(input)?,
+            minor: number(input)?,
+            slots: number(input)?,
+            room: number(input)?,
+            a: bytes(input)?,
+            b: bytes(input)?,
+        }))
+    }
+}
+
+fn number(input: &mut impl Read) -> io::Result<u64> {
+    let mut buf = [0; 8];
+    input.read_exact(&mut buf)?;
+    Ok(u64::from_le_bytes(buf))
+}
+
+fn bytes(input: &mut impl Read) -> io::Result<Vec<u8>> {
+    let mut buf = vec![0; number(input)? as usize];
+    input.read_exact(&mut buf)?;
+    Ok(buf)
+}
