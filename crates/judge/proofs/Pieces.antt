@@ -26,22 +26,23 @@ module _ (s : List ℕ) (role start len : ℕ) where
       let k : start + len - start ≡ len = omega arith in
       rw (decoded-some role z) (ap not (judged-is b (take len (drop start s)) (rw k at j)))
 
-  module _ (slots : ℕ) (r : Record) (b : Bool) (e : b ≡ notText s (roleOf role) start len) where
+  -- n entries before it
+  module _ (slots n : ℕ) (b : Bool) (e : b ≡ notText s (roleOf role) start len) (r : Record) (z : r .entries ≡ n) where
     pub text-bad : b ≡ true → refused 3 start 0 ≡ textTaken s slots r (roleOf role) start len
     unfolding textTaken
     text-bad q = rw (← e, q)
 
-    pub text-passed : b ≡ false → role < 2 → ok (withEntries r (r .entries)) ≡ textTaken s slots r (roleOf role) start len
+    pub text-passed : b ≡ false → role < 2 → ok (withEntries r n) ≡ textTaken s slots r (roleOf role) start len
     unfolding textTaken entered
-    text-passed q h = rw (← e, q, kept-below role h)
+    text-passed q h = rw (← e, q, kept-below role h, z)
 
-    pub text-full : (place : ℕ) → place ≡ start - 8 → b ≡ false → 2 ≤ role → slots ≤ r .entries → refused 4 place 0 ≡ textTaken s slots r (roleOf role) start len
+    pub text-full : (place : ℕ) → place ≡ start - 8 → b ≡ false → 2 ≤ role → slots ≤ n → refused 4 place 0 ≡ textTaken s slots r (roleOf role) start len
     unfolding textTaken
-    text-full place p q h g = rw (p, ← e, q, kept-from role h, le-leb slots (r .entries) g)
+    text-full place p q h g = rw (p, ← e, q, kept-from role h, z, le-leb slots n g)
 
-    pub text-kept : b ≡ false → 2 ≤ role → r .entries < slots → ok (withEntries r (r .entries + 1)) ≡ textTaken s slots r (roleOf role) start len
+    pub text-kept : b ≡ false → 2 ≤ role → n < slots → ok (withEntries r (n + 1)) ≡ textTaken s slots r (roleOf role) start len
     unfolding textTaken entered
-    text-kept q h g = rw (← e, q, kept-from role h, lt-leb slots (r .entries) g)
+    text-kept q h g = rw (← e, q, kept-from role h, z, lt-leb slots n g)
 
   module _ (b : Bool) (e : b ≡ notText s (roleOf role) start len) where
     pub half-bad : b ≡ true → _≡_ {A = Result Ended} (refused 3 start 0) (halfTaken s (roleOf role) start len)

@@ -3,9 +3,10 @@ use Prim.Native.Nat.{ℕ, _≤_}
 use mathlib.Core.List.{List}
 use Rattle.layouts.specs.declared.Record.{Record}
 use Rattle.layouts.specs.Primitive.{Result, ok, refused}
-use Rattle.layouts.specs.Record.{blank}
-use Rattle.layouts.specs.Judge.{Ended}
-use Rattle.layouts.specs.Pieces.{skipOf}
+use Rattle.layouts.specs.Record.{blank, withEntries}
+use Rattle.layouts.specs.Judge.{Ended, judgeOf}
+use Rattle.layouts.specs.Shape.{Tree}
+use Rattle.layouts.specs.Pieces.{run, skipOf}
 use Rattle.layouts.specs.Calls as L
 use Rattle.walk.specs.Walk.{rest, fuel}
 use Rattle.judge.specs.declared.Outcome.the-variants.{Fine, Refused}
@@ -15,6 +16,10 @@ use Rattle.judge.specs.declared.Taken.{Taken}
 use Rattle.judge.specs.declared.Taken.the-variants as T
 use Rattle.judge.specs.declared.Swept.{Swept}
 use Rattle.judge.specs.declared.Swept.the-variants as W
+use Rattle.judge.specs.declared.Row.{Row}
+use Rattle.judge.specs.declared.Row.the-variants as O
+use Rattle.judge.specs.declared.Ran.{Ran}
+use Rattle.judge.specs.declared.Ran.the-variants as N
 use Rattle.judge.specs.declared.Skipped.{Skipped}
 use Rattle.judge.specs.declared.Skipped.the-variants as S
 
@@ -44,3 +49,20 @@ sweptTo s (W.Refused which place) = refused which place 0
 abbrev pub NoMore : List ℕ → (fuel : ℕ) → Swept → Type 0
 NoMore s f (W.On w) = fuel s w ≤ f
 NoMore s f (W.Refused which place) = Unit {0}
+
+-- judging past a row of strings: to what follows it, with the entries then
+abbrev pub rowTo : List ℕ → (slots room : ℕ) → Record → (Unit {0} → Tree) → Row → Result Ended
+rowTo s slots room x k (O.Past at n) = judgeOf s slots room (withEntries x n) (run (k tt) s at)
+rowTo s slots room x k (O.Refused which place) = refused which place 0
+
+abbrev pub RowFrom : (from : ℕ) → Row → Type 0
+RowFrom from (O.Past at n) = from ≤ at
+RowFrom from (O.Refused which place) = Unit {0}
+
+abbrev pub ranTo : List ℕ → (slots room : ℕ) → Record → Ran → Result Ended
+ranTo s slots room x (N.On w n) = judgeOf s slots room (withEntries x n) (rest s w)
+ranTo s slots room x (N.Refused which place) = refused which place 0
+
+abbrev pub RanFalls : List ℕ → (fuel : ℕ) → Ran → Type 0
+RanFalls s f (N.On w n) = fuel s w ≤ f
+RanFalls s f (N.Refused which place) = Unit {0}

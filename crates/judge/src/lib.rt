@@ -1,17 +1,21 @@
 // The judge: a walk without writes that ends in the record of a layout, or in the first refusal. Text and room are judged here, and not in the walk.
 // The skipper: the same walk, with no look at text and room.
 ghost use mathlib.Core.Path.{_≡_};
-ghost use Prim.Native.Nat.{_+_, _-_, _≤_};
+ghost use Prim.Native.Nat.{ℕ, _+_, _-_, _≤_};
 ghost use lib.ListN.{length};
 ghost use Rattle.layouts.specs.Primitive.{version, refused};
-ghost use Rattle.layouts.specs.Shape.{truth};
-ghost use Rattle.layouts.specs.Pieces.{skipOf};
+ghost use Rattle.layouts.specs.declared.Record.{Record};
+ghost use Rattle.layouts.specs.Shape.{truth, Tree};
+ghost use Rattle.layouts.specs.Pieces.{run, skipOf};
 ghost use Rattle.layouts.specs.Record.{blank, withNumber, withCount, withEntries, withPayload, noted};
 ghost use Rattle.layouts.specs.Judge.{notText, textTaken, halfTaken, chunkTaken, judgeOf};
 ghost use Rattle.table.specs.Table.{roleOf, slotOf};
 ghost use Rattle.walk.specs.Walk.{layoutPieces, rest, fuel};
-ghost use Rattle.judge.specs.Judged.{taken, judgedAs, answerAs, skipped, sweptTo, NoMore};
+ghost use Rattle.judge.specs.Judged.{taken, judgedAs, answerAs, skipped, sweptTo, NoMore, rowTo, RowFrom, ranTo, RanFalls};
+ghost use Rattle.strings.specs.Strings.{row};
 use layouts::Record;
+use pieces::Text;
+use strings::More;
 use strings::Passed;
 use walk::Step;
 use walk::Todo;
@@ -66,6 +70,18 @@ enum Taken {
 // The walk past the strings that a field has left, or the first refusal among them.
 enum Swept {
     On(Walk),
+    Refused { which: u64, place: usize },
+}
+
+// Where a row of strings ends, and the entries then; or its first refusal.
+enum Row {
+    Past { at: usize, entries: usize },
+    Refused { which: u64, place: usize },
+}
+
+// The same as a walk past the row.
+enum Ran {
+    On { walk: Walk, entries: usize },
     Refused { which: u64, place: usize },
 }
 
@@ -185,10 +201,10 @@ fn is_bad(s: &[u8], role: u8, start: usize, len: usize) -> bool
     !text::is_text(&s[start..end])
 }
 
-// A whole string: 3, then 4, or the record with the string counted where it is kept.
-fn take_text(s: &[u8], slots: usize, r: Record, role: u8, start: usize, len: usize) -> Taken
+// A whole string, with n entries before it: 3, then 4, or the entries with the string counted where it is kept.
+fn take_text(s: &[u8], slots: usize, n: usize, role: u8, start: usize, len: usize) -> Taken
     requires { ⌜ start + len ≤ length (now s) ⌝ }
-    ensures { λ o. ⌜ taken (withEntries r) o ≡ textTaken (now (s .entry)) slots r (roleOf role) start len ⌝ }
+    ensures { λ o. ⌜ ((r : Record) → r .entries ≡ n → taken (withEntries r) o ≡ textTaken (now (s .entry)) slots r (roleOf role) start len) ⌝ }
 {
     if is_bad(s, role, start, len) {
         return Taken::Refused {
@@ -196,7 +212,6 @@ fn take_text(s: &[u8], slots: usize, r: Record, role: u8, start: usize, len: usi
             place: start,
         };
     }
-    let n = r.entries;
     if role < table::KEPT {
         return Taken::Fine(n);
     }
@@ -218,6 +233,119 @@ fn take_half(s: &[u8], role: u8, start: usize, len: usize) -> Judged
         return refuse(BAD_TEXT, start);
     }
     refuse(CUT_SHORT, start + len)
+}
+
+// The same in a row.
+fn half_row(s: &[u8], role: u8, start: usize, len: usize) -> Row
+    requires { ⌜ start + len ≤ length (now s) ⌝ }
+    ensures law { λ o. ⌜ ((slots room : ℕ) (x : Record) (k : Unit {0} → Tree) → rowTo (now (s .entry)) slots room x k o ≡ halfTaken (now (s .entry)) (roleOf role) start len) ⌝ }
+    ensures on { λ o. ⌜ ((from : ℕ) → RowFrom from o) ⌝ }
+{
+    if is_bad(s, role, start, len) {
+        return Row::Refused {
+            which: BAD_TEXT,
+            place: start,
+        };
+    }
+    Row::Refused {
+        which: CUT_SHORT,
+        place: start + len,
+    }
+}
+
+// A row of strings, with n entries before it: where it ends, and the entries then.
+fn judge_row(
+    s: &[u8],
+    from: usize,
+    role: u8,
+    pend: u64,
+    extra: u64,
+    left: u64,
+    slots: usize,
+    n: usize,
+) -> Row
+    ensures law { λ r. ⌜ ((room : ℕ) (k : Unit {0} → Tree) (x : Record) → x .entries ≡ n → judgeOf (now (s .entry)) slots room x (run (row (roleOf role) pend extra left k) (now (s .entry)) from) ≡ rowTo (now (s .entry)) slots room x k r) ⌝ }
+    ensures on { λ r. ⌜ RowFrom from r ⌝ }
+{
+    let mut at = from;
+    let mut p = pend;
+    let mut l = left;
+    let mut entries = n;
+    loop {
+        let m = strings::after_next(p, extra, l);
+        match m {
+            More::None => {
+                return Row::Past { at, entries };
+            }
+            More::String { pend, left } => {
+                let t = pieces::text_at(s, at);
+                match t {
+                    Text::Bad { which, place } => {
+                        return Row::Refused { which, place };
+                    }
+                    Text::Half { start, len } => {
+                        return half_row(s, role, start, len);
+                    }
+                    Text::Whole { start, len, next } => {
+                        let f = take_text(s, slots, entries, role, start, len);
+                        match f {
+                            Taken::Refused { which, place } => {
+                                return Row::Refused { which, place };
+                            }
+                            Taken::Fine(more) => {
+                                at = next;
+                                p = pend;
+                                l = left;
+                                entries = more;
+                            }
+                        }
+                    }
+                }
+            }
+        }
+    }
+}
+
+// All strings that a field has left, in one go.
+fn judge_strings(s: &[u8], w: Walk, slots: usize, n: usize) -> Ran
+    ensures law { λ r. ⌜ ((room : ℕ) (x : Record) → x .entries ≡ n → judgeOf (now (s .entry)) slots room x (rest (now (s .entry)) w) ≡ ranTo (now (s .entry)) slots room x r) ⌝ }
+    ensures falls { λ r. ⌜ RanFalls (now (s .entry)) (fuel (now (s .entry)) w) r ⌝ }
+{
+    let todo = w.todo;
+    match todo {
+        Todo::Strings {
+            role,
+            pend,
+            extra,
+            left,
+        } => {
+            let flow = w.flow;
+            let k = judge_row(s, w.at, role, pend, extra, left, slots, n);
+            match k {
+                Row::Refused { which, place } => Ran::Refused { which, place },
+                Row::Past { at, entries } => {
+                    let walk = Walk {
+                        at,
+                        todo: Todo::Fields,
+                        flow,
+                    };
+                    Ran::On { walk, entries }
+                }
+            }
+        }
+        Todo::Fields => Ran::On {
+            walk: w,
+            entries: n,
+        },
+        Todo::Number => Ran::On {
+            walk: w,
+            entries: n,
+        },
+        Todo::Chunks => Ran::On {
+            walk: w,
+            entries: n,
+        },
+    }
 }
 
 // A chunk: 5, or the record with its bytes counted.
@@ -266,7 +394,16 @@ pub fn judge(
                 next,
             } => {
                 got = note(got, slot, value);
-                w = next;
+                let k = judge_strings(s, next, slots, got.entries);
+                match k {
+                    Ran::Refused { which, place } => {
+                        return refuse(which, place);
+                    }
+                    Ran::On { walk, entries } => {
+                        got.entries = entries;
+                        w = walk;
+                    }
+                }
             }
             Step::Text {
                 role,
@@ -274,7 +411,7 @@ pub fn judge(
                 len,
                 next,
             } => {
-                let t = take_text(s, slots, got, role, start, len);
+                let t = take_text(s, slots, got.entries, role, start, len);
                 match t {
                     Taken::Refused { which, place } => {
                         return refuse(which, place);

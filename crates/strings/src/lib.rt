@@ -17,12 +17,12 @@ pub enum Passed {
 }
 
 // What is left of a row after its next string, if it has one.
-enum More {
+pub enum More {
     String { pend: u64, left: u64 },
     None,
 }
 
-fn after_next(pend: u64, extra: u64, left: u64) -> More
+pub fn after_next(pend: u64, extra: u64, left: u64) -> More
     ensures { λ r. ⌜ ((m : Role) (k : Unit {0} → Tree) → row m pend extra left k ≡ rowAfter m extra k r) ⌝ }
 {
     if 0 < pend {

@@ -10,9 +10,9 @@ take-text-spec =
     tie.close
     (tie.spec
     (λ c κs. search needs)
-    (λ c. text-bad (now (c .before .before .before .args .s)) (c .before .before .before .args .role) _ _ _ _ _ (c .before .is-bad .ensures) (c .if1 .taken))
-    (λ c. text-passed (now (c .before .before .before .before .args .s)) (c .before .before .before .before .args .role) _ _ _ _ _ (c .before .before .is-bad .ensures) (c .before .if1 .left) (c .if2 .taken))
+    (λ c. λ r z. text-bad (now (c .before .before .before .args .s)) (c .before .before .before .args .role) _ _ _ _ _ (c .before .is-bad .ensures) r z (c .if1 .taken))
+    (λ c. λ r z. text-passed (now (c .before .before .before .before .args .s)) (c .before .before .before .before .args .role) _ _ _ _ _ (c .before .before .is-bad .ensures) r z (c .before .if1 .left) (c .if2 .taken))
     (λ c κs. search needs)
-    (λ c. text-full (now (c .before .before .before .before .before .before .args .s)) (c .before .before .before .before .before .before .args .role) _ _ _ _ _ (c .before .before .before .before .is-bad .ensures) _ (c .place-of .ensures) (c .before .before .before .if1 .left) (c .before .before .if2 .left) (c .before .if3 .taken))
+    (λ c. λ r z. text-full (now (c .before .before .before .before .before .before .args .s)) (c .before .before .before .before .before .before .args .role) _ _ _ _ _ (c .before .before .before .before .is-bad .ensures) r z _ (c .place-of .ensures) (c .before .before .before .if1 .left) (c .before .before .if2 .left) (c .before .if3 .taken))
     (λ c. search needs)
-    (λ c. text-kept (now (c .before .before .before .before .before .args .s)) (c .before .before .before .before .before .args .role) _ _ _ _ _ (c .before .before .before .is-bad .ensures) (c .before .before .if1 .left) (c .before .if2 .left) (c .if3 .left)))
+    (λ c. λ r z. text-kept (now (c .before .before .before .before .before .args .s)) (c .before .before .before .before .before .args .role) _ _ _ _ _ (c .before .before .before .is-bad .ensures) r z (c .before .before .if1 .left) (c .before .if2 .left) (c .if3 .left)))
