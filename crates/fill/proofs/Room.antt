@@ -1,12 +1,16 @@
 -- Writing into lent room from a place on; what lies past its end falls away.
 use Prim.Native.Nat.{ℕ, zero, suc, _+_, _-_, _≤_, _<_}
-use mathlib.Core.Path.{_≡_, refl, sym, _∙_, ap}
+use mathlib.Core.Path.{_≡_, refl, sym, _∙_, ap, subst}
 use mathlib.Core.List.{List, [], _∷_, _++_, append-assoc, append-nil}
 use native.Mathlib.Nat.{add-zero, add-suc, suc-add}
 use native.Mathlib.Numerals.{add-one}
 use native.Mathlib.Omega.{arith}
-use lib.ListN.{length, set, take, drop, length-set, length-take, length-drop}
-use lib.Seq.{sets, sets-eq, length-sets, take-add}
+use lib.ListN.{length, set, take, drop, length-append, length-set, length-take, length-drop, drop-of-length-le}
+use lib.Seq.{sets, sets-eq, length-sets, take-add, take-all}
+use Rattle.layouts.specs.Primitive.{numberBytes}
+use Rattle.layouts.proofs.Little.{length-number}
+use Rattle.output.specs.Numbers.{bytesOf}
+use Rattle.output.proofs.Laws as Output
 use Rattle.fill.specs.Fill.{Put}
 
 set-past : (l : List ℕ) (i x : ℕ) → length l ≤ i → set l i x ≡ l
@@ -70,6 +74,24 @@ module _ (s : List ℕ) (start len : ℕ) (l : List ℕ) (i : ℕ) where
 
   pub put-whole : (m : List ℕ) → start + len ≤ length s → m ≡ sets l i (take len (drop start s)) → Put l i (take len (drop start s)) m (i + len)
   put-whole m h q = put-fits l i (take len (drop start s)) m len (part-length s start len h) q
+
+-- an entry's sixteen bytes
+entry-bytes : (z e₁ e₂ : List ℕ) (start len : ℕ) → length z ≡ 16 → e₁ ≡ sets z 0 (numberBytes start) → e₂ ≡ sets e₁ 8 (numberBytes len)
+    → take 16 (drop 0 e₂) ≡ bytesOf (start ∷ len ∷ [])
+unfolding bytesOf
+entry-bytes z e₁ e₂ start len h p q =
+    let l = length-number start in
+    let m = length-number len in
+    let n : length e₂ ≡ 16 = ap length q ∙ length-sets e₁ 8 (numberBytes len) ∙ ap length p ∙ length-sets z 0 (numberBytes start) ∙ h in
+    let k : length (numberBytes start ++ numberBytes len) ≡ 16 = length-append (numberBytes start) (numberBytes len) ∙ omega arith in
+    take-all 16 e₂ (omega arith) ∙ Output.then z e₁ e₂ 0 8 (numberBytes start) (numberBytes len) (omega arith) p q ∙
+    sets-eq (numberBytes start ++ numberBytes len) z 0 (omega arith) ∙
+    ap (λ (x : List ℕ). (numberBytes start ++ numberBytes len) ++ x) (drop-of-length-le z {i = 0 + length (numberBytes start ++ numberBytes len)} (omega arith)) ∙
+    append-assoc (numberBytes start) (numberBytes len) []
+
+pub put-entry : (l : List ℕ) (i : ℕ) (o : List ℕ) (k : ℕ) (z e₁ e₂ : List ℕ) (start len : ℕ) → length z ≡ 16 → e₁ ≡ sets z 0 (numberBytes start)
+    → e₂ ≡ sets e₁ 8 (numberBytes len) → Put l i (take 16 (drop 0 e₂)) o k → Put l i (bytesOf (start ∷ len ∷ [])) o k
+put-entry l i o k z e₁ e₂ start len h p q t = subst (λ (vs : List ℕ). Put l i vs o k) (entry-bytes z e₁ e₂ start len h p q) t
 
 -- one after another
 pub put-join : (l : List ℕ) (i : ℕ) (vs m : List ℕ) (j : ℕ) (ws o : List ℕ) (k : ℕ) → Put l i vs m j → Put m j ws o k → Put l i (vs ++ ws) o k

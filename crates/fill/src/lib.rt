@@ -8,6 +8,7 @@ ghost use lib.Seq.{sets};
 ghost use Rattle.layouts.specs.Primitive.{version};
 ghost use Rattle.layouts.specs.Judge.{entriesOf, payloadOf};
 ghost use Rattle.walk.specs.Walk.{rest, fuel, layoutPieces};
+ghost use Rattle.output.specs.Numbers.{bytesOf};
 ghost use Rattle.fill.specs.Fill.{keptOf, chunkedOf, FoundFalls, Put};
 use walk::Step;
 use walk::Walk;
@@ -213,6 +214,44 @@ pub fn join_payload(s: &[u8], at: usize, major: u16, minor: u8, run: usize, out:
             }
             Found::Part { start, len, next } => {
                 filled = put_chunk(s, start, len, out, filled);
+                w = next;
+            }
+        }
+    }
+}
+
+// An entry as sixteen bytes.
+fn put_entry_bytes(out: &mut [u8], at: usize, start: usize, len: usize) -> usize
+    ensures { λ r. ⌜ Put (now (out .entry)) at (bytesOf (start ∷ len ∷ [])) (now (out .exit)) r ⌝ }
+{
+    let mut entry = [0u8; 16];
+    output::put_number(&mut entry, 0, start as u64);
+    output::put_number(&mut entry, 8, len as u64);
+    put_chunk(&entry, 0, 16, out, at)
+}
+
+// The same as fill_entries, with entries of sixteen bytes.
+pub fn fill_entry_bytes(
+    s: &[u8],
+    at: usize,
+    major: u16,
+    minor: u8,
+    run: usize,
+    out: &mut [u8],
+    from: usize,
+) -> usize
+    ensures { λ r. ⌜ Put (now (out .entry)) from (bytesOf (entriesOf (layoutPieces (version major minor) run (now (s .entry)) at))) (now (out .exit)) r ⌝ }
+{
+    let mut w = walk::begin(major, minor, run, at);
+    let mut n = from;
+    loop {
+        let e = next_kept(s, w);
+        match e {
+            Found::Over => {
+                return n;
+            }
+            Found::Part { start, len, next } => {
+                n = put_entry_bytes(out, n, start, len);
                 w = next;
             }
         }

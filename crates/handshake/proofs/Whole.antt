@@ -1,5 +1,5 @@
 -- Both handshakes from their first turn to their answer.
-use Prim.Native.Nat.{ℕ, _-_, _/_}
+use Prim.Native.Nat.{ℕ, _*_, _-_, _/_, _≤_}
 use mathlib.Core.Path.{_≡_, refl, sym, _∙_, ap}
 use mathlib.Core.List.{List, [], _++_, append-assoc}
 use mathlib.Core.Bool.{true, false}
@@ -20,6 +20,8 @@ use Rattle.walk.specs.Walk.{layoutPieces}
 use Rattle.judge.specs.declared.Outcome.the-variants.{Fine, Refused}
 use Rattle.judge.specs.declared.Answer.{Answer}
 use Rattle.judge.specs.Judged.{answerAs}
+use Rattle.output.specs.Numbers.{bytesOf}
+use Rattle.output.proofs.Numbers.{bytes-join, bytes-length}
 use Rattle.fill.specs.Fill.{Put}
 use Rattle.fill.proofs.Room.{put-join, put-all}
 use Rattle.handshake.specs.declared.Sofar.{Sofar}
@@ -33,24 +35,21 @@ at-any : (gs : List Group) {t : Tree} {v : Version} → v ≡ version 0 0 → t 
 at-any gs e q = q ∙ ap (λ (x : Version). layout x gs) (sym e)
 
 -- all of a handshake is read, and these are its entries
-module _ (s u lent : List ℕ) (v : Version) where
+module _ (s u : List ℕ) (slots : ℕ) (v : Version) where
   abbrev pub HandshakeRead : (met offered settled done : Sofar) → Type 0
   HandshakeRead met offered settled done =
-      Left s u (length lent / 2) (hear handshake s u 0 0 blank) (said done)
+      Left s u slots (hear handshake s u 0 0 blank) (said done)
       ((entriesOf (layoutPieces v featuresClient s (met .«client_ends»)) ++ entriesOf (layoutPieces v featuresDaemon u (offered .«daemon_ends»)))
       ++ entriesOf (layoutPieces v info u (settled .«daemon_ends»)))
       over
 
   abbrev pub DaemonRead : (c : Version) (met agreed done : Sofar) → Type 0
   DaemonRead c met agreed done =
-      Left s u (length lent / 2) (hear (daemonHandshake c) s u 0 0 blank) (said done)
+      Left s u slots (hear (daemonHandshake c) s u 0 0 blank) (said done)
       (entriesOf (layoutPieces v featuresDaemon u (met .«daemon_ends»)) ++ entriesOf (layoutPieces v info u (agreed .«daemon_ends»))) over
 
 -- ---- turn by turn
-module _ (s u lent : List ℕ) (v₀ v : Version) (z : v₀ ≡ version 0 0) (first : Sofar) (begun : said first ≡ ok start) where
-  abbrev slots : ℕ
-  slots = length lent / 2
-
+module _ (s u : List ℕ) (slots : ℕ) (v₀ v : Version) (z : v₀ ≡ version 0 0) (first : Sofar) (begun : said first ≡ ok start) where
   abbrev infoEntries : Sofar → List ℕ
   infoEntries h = entriesOf (layoutPieces v info u (h .«daemon_ends»))
 
@@ -77,7 +76,7 @@ module _ (s u lent : List ℕ) (v₀ v : Version) (z : v₀ ≡ version 0 0) (fi
       → said settled ≡ onward (said agreed) (turnOf false s slots (layout v (groupsAt obsolete)))
       → said informed ≡ onward (said settled) (turnOf true u slots (layout v (groupsAt info)))
       → said done ≡ onward (said informed) (required (eqb (numberIn (informed .found) 5) Last) notLast (informed .«daemon_ends» - 8) 1)
-      → HandshakeRead s u lent v met offered settled done
+      → HandshakeRead s u slots v met offered settled done
   unfolding handshake greeting
   handshake-left asked hello met offered agreed settled informed done e1 e2 e3 c d e4 ec ed e5 e6 e7 e8 e9 =
       let w = hear handshake s u 0 0 blank in
@@ -97,7 +96,7 @@ module _ (s u lent : List ℕ) (v₀ v : Version) (z : v₀ ≡ version 0 0) (fi
       → said agreed ≡ onward (said met) (turnOf true u slots (layout v (groupsAt featuresDaemon)))
       → said informed ≡ onward (said agreed) (turnOf true u slots (layout v (groupsAt info)))
       → said done ≡ onward (said informed) (required (eqb (numberIn (informed .found) 5) Last) notLast (informed .«daemon_ends» - 8) 1)
-      → DaemonRead s u lent v c met agreed done
+      → DaemonRead s u slots v c met agreed done
   unfolding daemonHandshake daemonGreeting
   daemon-left c hello met agreed informed done e1 e2 c' d e3 ec ed e4 e5 e6 =
       let w = hear (daemonHandshake c) s u 0 0 blank in
@@ -107,73 +106,85 @@ module _ (s u lent : List ℕ) (v₀ v : Version) (z : v₀ ≡ version 0 0) (fi
       let l4 = left-turn s u slots w met agreed [] true _ _ _ (ap (layout v) (others .daemonFeatures)) e4 l3 in
       last-left w agreed informed done _ e5 e6 l4
 
--- ---- the answer, and the lent entries afterwards
-module _ (s u lent : List ℕ) (whole : Heard) (done : Sofar) (es : List ℕ) (l : Left s u (length lent / 2) whole (said done) es over)
+-- ---- the answer, and the lent entries afterwards, in a form that fits the room
+-- numbers as they are, or their bytes
+pub record Form (form : List ℕ → List ℕ) (slots : ℕ) (lent : List ℕ) : Type 0 where
+  pub join : (xs ys : List ℕ) → form (xs ++ ys) ≡ form xs ++ form ys
+  pub room : (xs : List ℕ) → length xs ≤ 2 * slots → length (form xs) ≤ length lent
+
+pub as-numbers : (lent : List ℕ) → Form (λ (xs : List ℕ). xs) (length lent / 2) lent
+as-numbers lent = record { join = λ xs ys. refl; room = λ xs h. omega arith }
+
+pub as-bytes : (lent : List ℕ) → Form bytesOf (length lent / 16) lent
+as-bytes lent = record { join = bytes-join; room = λ xs h. let l = bytes-length xs in omega arith }
+
+module _ (s u lent : List ℕ) (slots : ℕ) (form : List ℕ → List ℕ) (fm : Form form slots lent) (whole : Heard) (done : Sofar) (es : List ℕ) (l : Left s u slots whole (said done) es over)
     (f : Both → Result L.Answer) (found : (x : Both) → (a : L.Answer) × (f x ≡ ok a)) where
   abbrev parsed : Result L.Answer
-  parsed = onward (judgeHeard s u (length lent / 2) blank whole) f
+  parsed = onward (judgeHeard s u slots blank whole) f
 
   parsed-said : parsed ≡ onward (said done) f
-  parsed-said = ap (λ (o : Result Both). onward o f) (left-answer s u (length lent / 2) whole (said done) es l)
+  parsed-said = ap (λ (o : Result Both). onward o f) (left-answer s u slots whole (said done) es l)
 
   answered : (g : Both → Result L.Answer) → f (bothOf done) ≡ g (bothOf done) → (r : Answer) → r ≡ answerAs (onward (said done) g) → r ≡ answerAs parsed
   answered g e r q = q ∙ ap answerAs (said-known done g f (sym e) ∙ sym parsed-said)
 
-  unchanged : (which place stream : ℕ) → done .outcome ≡ Refused which place stream → lent ≡ lentAfter parsed (heardEntries whole) lent
-  unchanged which place stream e = ap (λ (o : Result L.Answer). lentAfter o (heardEntries whole) lent) (stays done f which place stream e ∙ sym parsed-said)
+  unchanged : (which place stream : ℕ) → done .outcome ≡ Refused which place stream → lent ≡ lentAfter parsed (form (heardEntries whole)) lent
+  unchanged which place stream e = ap (λ (o : Result L.Answer). lentAfter o (form (heardEntries whole)) lent) (stays done f which place stream e ∙ sym parsed-said)
 
-  filled : done .outcome ≡ Fine → (out : List ℕ) (n : ℕ) → Put lent 0 es out n → out ≡ lentAfter parsed (heardEntries whole) lent
+  filled : done .outcome ≡ Fine → (out : List ℕ) (n : ℕ) → Put lent 0 (form es) out n → out ≡ lentAfter parsed (form (heardEntries whole)) lent
   filled e out n p =
-      let h = left-fits s u (length lent / 2) whole done es l e in
-      put-all lent es out n p (omega arith)
-      ∙ ap (λ (x : List ℕ). x ++ drop (length x) lent) (sym (left-reports s u (length lent / 2) whole done es l e))
-      ∙ ap (λ (o : Result L.Answer). lentAfter o (heardEntries whole) lent) (sym (found (bothOf done) .1) ∙ goes done f e ∙ sym parsed-said)
+      let h = left-fits s u slots whole done es l e in
+      put-all lent (form es) out n p (fm .room es h)
+      ∙ ap (λ (x : List ℕ). form x ++ drop (length (form x)) lent) (sym (left-reports s u slots whole done es l e))
+      ∙ ap (λ (o : Result L.Answer). lentAfter o (form (heardEntries whole)) lent) (sym (found (bothOf done) .1) ∙ goes done f e ∙ sym parsed-said)
 
 -- of the whole handshake
-module _ (s u lent : List ℕ) (v : Version) (met offered settled done : Sofar) (l : HandshakeRead s u lent v met offered settled done) (c : Version)
+module _ (s u lent : List ℕ) (slots : ℕ) (form : List ℕ → List ℕ) (fm : Form form slots lent) (v : Version) (met offered settled done : Sofar) (l : HandshakeRead s u slots v met offered settled done) (c : Version)
     (e : c ≡ fromWire (numberIn (done .found) 1)) (r : Answer) (q : r ≡ answerAs (onward (said done) (handshakeAnswer c))) where
   abbrev Parsed : List ℕ → Type 0
   Parsed out =
-      (r ≡ answerAs (parseHandshake s u (length lent / 2)))
-      × (out ≡ lentAfter (parseHandshake s u (length lent / 2)) (heardEntries (hear handshake s u 0 0 blank)) lent)
+      (r ≡ answerAs (parseHandshake s u slots))
+      × (out ≡ lentAfter (parseHandshake s u slots) (form (heardEntries (hear handshake s u 0 0 blank))) lent)
 
-  told : r ≡ answerAs (parseHandshake s u (length lent / 2))
+  told : r ≡ answerAs (parseHandshake s u slots)
   unfolding parseHandshake
-  told = answered s u lent _ done _ l (λ x. handshakeAnswer (fromWire (numberIn (x .found) 1)) x) (λ x. (_, refl)) (handshakeAnswer c) (ap (λ (x : Version). handshakeAnswer x (bothOf done)) (sym e)) r q
+  told = answered s u lent slots form fm _ done _ l (λ x. handshakeAnswer (fromWire (numberIn (x .found) 1)) x) (λ x. (_, refl)) (handshakeAnswer c) (ap (λ (x : Version). handshakeAnswer x (bothOf done)) (sym e)) r q
 
   pub handshake-refused : (which place stream : ℕ) → done .outcome ≡ Refused which place stream → Parsed lent
   unfolding parseHandshake
-  handshake-refused which place stream f = (told, unchanged s u lent _ done _ l (λ x. handshakeAnswer (fromWire (numberIn (x .found) 1)) x) (λ x. (_, refl)) which place stream f)
+  handshake-refused which place stream f = (told, unchanged s u lent slots form fm _ done _ l (λ x. handshakeAnswer (fromWire (numberIn (x .found) 1)) x) (λ x. (_, refl)) which place stream f)
 
   pub handshake-fine : done .outcome ≡ Fine → (mid : List ℕ) (n : ℕ) (out : List ℕ) (m : ℕ)
-      → Put lent 0 (entriesOf (layoutPieces v featuresClient s (met .«client_ends»))) mid n
-      → Put mid n (entriesOf (layoutPieces v featuresDaemon u (offered .«daemon_ends»)) ++ entriesOf (layoutPieces v info u (settled .«daemon_ends»))) out m
+      → Put lent 0 (form (entriesOf (layoutPieces v featuresClient s (met .«client_ends»)))) mid n
+      → Put mid n (form (entriesOf (layoutPieces v featuresDaemon u (offered .«daemon_ends»)) ++ entriesOf (layoutPieces v info u (settled .«daemon_ends»)))) out m
       → Parsed out
   unfolding parseHandshake
   handshake-fine f mid n out m p p' = (
     told,
-    filled s u lent _ done _ l (λ x. handshakeAnswer (fromWire (numberIn (x .found) 1)) x) (λ x. (_, refl)) f out m
+    filled s u lent slots form fm _ done _ l (λ x. handshakeAnswer (fromWire (numberIn (x .found) 1)) x) (λ x. (_, refl)) f out m
         (rw (append-assoc (entriesOf (layoutPieces v featuresClient s (met .«client_ends»))) (entriesOf (layoutPieces v featuresDaemon u (offered .«daemon_ends»))) (entriesOf (layoutPieces v info u (settled .«daemon_ends»))))
-        (put-join lent 0 _ mid n _ out m p p')),
+        (rw (fm .join (entriesOf (layoutPieces v featuresClient s (met .«client_ends»))) (entriesOf (layoutPieces v featuresDaemon u (offered .«daemon_ends»)) ++ entriesOf (layoutPieces v info u (settled .«daemon_ends»))))
+        (put-join lent 0 _ mid n _ out m p p'))),
   )
 
 -- of the daemon's side alone
-module _ (u lent : List ℕ) (v c : Version) (met agreed done : Sofar) (l : DaemonRead [] u lent v c met agreed done) (c' : Version) (e : c' ≡ c) (r : Answer)
+module _ (u lent : List ℕ) (slots : ℕ) (form : List ℕ → List ℕ) (fm : Form form slots lent) (v c : Version) (met agreed done : Sofar) (l : DaemonRead [] u slots v c met agreed done) (c' : Version) (e : c' ≡ c) (r : Answer)
     (q : r ≡ answerAs (onward (said done) (handshakeAnswer c'))) where
   abbrev DaemonParsed : List ℕ → Type 0
   DaemonParsed out =
-      (r ≡ answerAs (parseDaemonHandshake c u (length lent / 2)))
-      × (out ≡ lentAfter (parseDaemonHandshake c u (length lent / 2)) (heardEntries (hear (daemonHandshake c) [] u 0 0 blank)) lent)
+      (r ≡ answerAs (parseDaemonHandshake c u slots))
+      × (out ≡ lentAfter (parseDaemonHandshake c u slots) (form (heardEntries (hear (daemonHandshake c) [] u 0 0 blank))) lent)
 
-  daemon-told : r ≡ answerAs (parseDaemonHandshake c u (length lent / 2))
+  daemon-told : r ≡ answerAs (parseDaemonHandshake c u slots)
   unfolding parseDaemonHandshake
-  daemon-told = answered [] u lent _ done _ l (handshakeAnswer c) (λ x. (_, refl)) (handshakeAnswer c') (ap (λ (x : Version). handshakeAnswer x (bothOf done)) (sym e)) r q
+  daemon-told = answered [] u lent slots form fm _ done _ l (handshakeAnswer c) (λ x. (_, refl)) (handshakeAnswer c') (ap (λ (x : Version). handshakeAnswer x (bothOf done)) (sym e)) r q
 
   pub daemon-refused : (which place stream : ℕ) → done .outcome ≡ Refused which place stream → DaemonParsed lent
   unfolding parseDaemonHandshake
-  daemon-refused which place stream f = (daemon-told, unchanged [] u lent _ done _ l (handshakeAnswer c) (λ x. (_, refl)) which place stream f)
+  daemon-refused which place stream f = (daemon-told, unchanged [] u lent slots form fm _ done _ l (handshakeAnswer c) (λ x. (_, refl)) which place stream f)
 
   pub daemon-fine : done .outcome ≡ Fine → (out : List ℕ) (m : ℕ)
-      → Put lent 0 (entriesOf (layoutPieces v featuresDaemon u (met .«daemon_ends»)) ++ entriesOf (layoutPieces v info u (agreed .«daemon_ends»))) out m → DaemonParsed out
+      → Put lent 0 (form (entriesOf (layoutPieces v featuresDaemon u (met .«daemon_ends»)) ++ entriesOf (layoutPieces v info u (agreed .«daemon_ends»)))) out m → DaemonParsed out
   unfolding parseDaemonHandshake
-  daemon-fine f out m p = (daemon-told, filled [] u lent _ done _ l (handshakeAnswer c) (λ x. (_, refl)) f out m p)
+  daemon-fine f out m p = (daemon-told, filled [] u lent slots form fm _ done _ l (handshakeAnswer c) (λ x. (_, refl)) f out m p)

@@ -15,6 +15,7 @@ ghost use Rattle.table.specs.Table.{groupsAt};
 ghost use Rattle.codes.specs.Handshake.{versionOf};
 ghost use Rattle.walk.specs.Walk.{layoutPieces};
 ghost use Rattle.judge.specs.Judged.{answerAs};
+ghost use Rattle.output.specs.Numbers.{bytesOf};
 ghost use Rattle.fill.specs.Fill.{Put};
 ghost use Rattle.table.specs.Packed.{featuresDaemon, info};
 ghost use Rattle.handshake.specs.Sofar.{start, bothOf, said, judgedOf, placeOn, turnOf, required, afterTurn};
@@ -374,5 +375,95 @@ pub fn parse_daemon_handshake(major: u16, minor: u8, daemon: &[u8], entries: &mu
         return answer;
     };
     fill_daemon(daemon, met.daemon_ends, agreed.daemon_ends, v, entries, 0);
+    answer
+}
+
+// ---- The same with entries of sixteen bytes.
+fn fill_turn_bytes(
+    s: &[u8],
+    at: usize,
+    v: ProtocolVersion,
+    run: usize,
+    entries: &mut [u8],
+    from: usize,
+) -> usize
+    ensures { λ r. ⌜ Put (now (entries .entry)) from (bytesOf (entriesOf (layoutPieces (versionOf v) run (now (s .entry)) at))) (now (entries .exit)) r ⌝ }
+{
+    fill::fill_entry_bytes(s, at, v.major, v.minor, run, entries, from)
+}
+
+fn fill_daemon_bytes(
+    daemon: &[u8],
+    features_at: usize,
+    info_at: usize,
+    v: ProtocolVersion,
+    entries: &mut [u8],
+    from: usize,
+) -> usize
+    ensures { λ r. ⌜ Put (now (entries .entry)) from (bytesOf (entriesOf (layoutPieces (versionOf v) featuresDaemon (now (daemon .entry)) «features_at») ++ entriesOf (layoutPieces (versionOf v) info (now (daemon .entry)) «info_at»))) (now (entries .exit)) r ⌝ }
+{
+    let n = fill_turn_bytes(
+        daemon,
+        features_at,
+        v,
+        table::FEATURES_DAEMON,
+        entries,
+        from,
+    );
+    fill_turn_bytes(daemon, info_at, v, table::INFO, entries, n)
+}
+
+pub fn parse_handshake_bytes(client: &[u8], daemon: &[u8], entries: &mut [u8]) -> Answer
+    ensures answer { λ r. ⌜ r ≡ answerAs (parseHandshake (now (client .entry)) (now (daemon .entry)) (length (now (entries .entry)) / 16)) ⌝ }
+    ensures entries { λ r. ⌜ now (entries .exit) ≡ lentAfter (parseHandshake (now (client .entry)) (now (daemon .entry)) (length (now (entries .entry)) / 16)) (bytesOf (heardEntries (hear handshake (now (client .entry)) (now (daemon .entry)) 0 0 blank))) (now (entries .entry)) ⌝ }
+{
+    let slots = entries.len() / 16;
+    let any_version = ProtocolVersion::new(0, 0);
+    let asked = Sofar::nothing().turn(client, false, any_version, table::HELLO_CLIENT, slots);
+    let hello = asked.turn(daemon, true, any_version, table::HELLO_DAEMON, slots);
+    let met = hello.require_magics();
+    let v = negotiated(hello.client_version(), hello.server_version());
+    let offered = met.turn(client, false, v, table::FEATURES_CLIENT, slots);
+    let agreed = offered.turn(daemon, true, v, table::FEATURES_DAEMON, slots);
+    let settled = agreed.turn(client, false, v, table::OBSOLETE, slots);
+    let informed = settled.turn(daemon, true, v, table::INFO, slots);
+    let done = informed.require_last();
+    let answer = done.answer(done.client_version());
+    let o = done.outcome;
+    let Outcome::Fine = o else {
+        return answer;
+    };
+    let client_at = met.client_ends;
+    let features_at = offered.daemon_ends;
+    let info_at = settled.daemon_ends;
+    let n = fill_turn_bytes(client, client_at, v, table::FEATURES_CLIENT, entries, 0);
+    fill_daemon_bytes(daemon, features_at, info_at, v, entries, n);
+    answer
+}
+
+pub fn parse_daemon_handshake_bytes(
+    major: u16,
+    minor: u8,
+    daemon: &[u8],
+    entries: &mut [u8],
+) -> Answer
+    ensures answer { λ r. ⌜ r ≡ answerAs (parseDaemonHandshake (version major minor) (now (daemon .entry)) (length (now (entries .entry)) / 16)) ⌝ }
+    ensures entries { λ r. ⌜ now (entries .exit) ≡ lentAfter (parseDaemonHandshake (version major minor) (now (daemon .entry)) (length (now (entries .entry)) / 16)) (bytesOf (heardEntries (hear (daemonHandshake (version major minor)) [] (now (daemon .entry)) 0 0 blank))) (now (entries .entry)) ⌝ }
+{
+    let slots = entries.len() / 16;
+    let client_version = ProtocolVersion::new(major, minor);
+    let any_version = ProtocolVersion::new(0, 0);
+    let hello = Sofar::nothing().turn(daemon, true, any_version, table::HELLO_DAEMON, slots);
+    let met = hello.require_daemon_magic();
+    let v = negotiated(client_version, hello.server_version());
+    let agreed = met.turn(daemon, true, v, table::FEATURES_DAEMON, slots);
+    let informed = agreed.turn(daemon, true, v, table::INFO, slots);
+    let done = informed.require_last();
+    let answer = done.answer(client_version);
+    let o = done.outcome;
+    let Outcome::Fine = o else {
+        return answer;
+    };
+    fill_daemon_bytes(daemon, met.daemon_ends, agreed.daemon_ends, v, entries, 0);
     answer
 }

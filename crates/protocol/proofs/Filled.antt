@@ -1,5 +1,5 @@
 -- A judged layout, filled: what it reports fits, and is what `layouts` says of lent memory.
-use Prim.Native.Nat.{ℕ, _+_, _/_, _≤_}
+use Prim.Native.Nat.{ℕ, _+_, _*_, _≤_}
 use mathlib.Core.Path.{_≡_, refl, sym, _∙_, ap}
 use mathlib.Core.List.{List, [], _∷_}
 use mathlib.Core.Bool.{Bool}
@@ -22,7 +22,9 @@ use Rattle.judge.specs.declared.Outcome.the-variants.{Fine, Refused}
 use Rattle.judge.specs.declared.Judged.{Judged}
 use Rattle.judge.specs.declared.Answer as C
 use Rattle.judge.specs.Judged.{judgedAs, answerAs}
-use Rattle.judge.proofs.Answers.{fine-ended, refused-ended}
+use Rattle.judge.proofs.Answers.{fine-ended, refused-ended, answer-fine, refused-keeps}
+use Rattle.output.specs.Numbers.{bytesOf}
+use Rattle.output.proofs.Numbers.{bytes-none, bytes-length}
 use Rattle.fill.specs.Fill.{Put}
 use Rattle.fill.proofs.Room.{put-all}
 use Rattle.protocol.specs.Protocol.{answeredAs, fronted, Reported}
@@ -31,55 +33,78 @@ none-there : (xs : List ℕ) → length xs ≡ 0 → xs ≡ []
 none-there [] e = refl
 none-there (x ∷ xs) e = absurd (omega arith)
 
--- a judgement of a layout with the room of two lent slices
-module _ (t : Tree) (s entries payload : List ℕ) (e₀ : Record) (b : e₀ ≡ blank) (a : Judged)
-    (j : a ≡ judgedAs (judgeOf s (length entries / 2) (length payload) e₀ (run t s 0))) where
+-- an answer by its kind's code, without the kind
+abbrev endedIn : Result Answer → Result Ended
+endedIn (ok x) = ok (record { found = x .found; ends = x .ends })
+endedIn (refused which place stream) = refused which place stream
+
+module _ (t : Tree) (s : List ℕ) (slots payload : ℕ) (v : Version) (c : ℕ) where
   abbrev said : Result Ended
-  said = judgeOf s (length entries / 2) (length payload) blank (run t s 0)
+  said = judgeOf s slots payload blank (run t s 0)
 
-  judged-is : a ≡ judgedAs said
-  judged-is = j ∙ ap (λ (r : Record). judgedAs (judgeOf s (length entries / 2) (length payload) r (run t s 0))) b
+  -- the judgement of a layout, as it is answered
+  module _ (e₀ : Record) (b : e₀ ≡ blank) (a : Judged) (j : a ≡ judgedAs (judgeOf s slots payload e₀ (run t s 0))) where
+    judged-is : a ≡ judgedAs said
+    judged-is = j ∙ ap (λ (r : Record). judgedAs (judgeOf s slots payload r (run t s 0))) b
 
-  module _ (v : Version) (c : ℕ) where
-    module _ (which place stream : ℕ) (f : a .outcome ≡ Refused which place stream) where
-      refused-is : said ≡ refused which place stream
-      refused-is = refused-ended a said which place stream judged-is f
+    pub read-refused : (which place stream : ℕ) → a .outcome ≡ Refused which place stream
+        → _≡_ {A = C.Answer} (record { outcome = a .outcome; kind = 0; ends = 0; ends2 = 0; found = a .found }) (answerAs (answeredAs v c said))
+    read-refused which place stream f =
+        let r = refused-ended a said which place stream judged-is f in
+        ap (λ (x : Judged). record { outcome = x .outcome; kind = 0; ends = 0; ends2 = 0; found = x .found }) (judged-is ∙ ap judgedAs r) ∙
+        ap (λ (o : Result Ended). answerAs (answeredAs v c o)) (sym r)
 
-      pub read-refused : _≡_ {A = C.Answer} (record { outcome = a .outcome; kind = 0; ends = 0; ends2 = 0; found = a .found }) (answerAs (answeredAs v c said))
-      read-refused =
-          ap (λ (x : Judged). record { outcome = x .outcome; kind = 0; ends = 0; ends2 = 0; found = x .found }) (judged-is ∙ ap judgedAs refused-is) ∙
-          ap (λ (o : Result Ended). answerAs (answeredAs v c o)) (sym refused-is)
+    pub read-fine : a .outcome ≡ Fine → (k : ℕ) → k ≡ kindNumbered v (a .found .present) c
+        → _≡_ {A = C.Answer} (record { outcome = a .outcome; kind = k; ends = a .ends; ends2 = 0; found = a .found }) (answerAs (answeredAs v c said))
+    read-fine f k q =
+        ap (λ (o : Outcome). record { outcome = o; kind = k; ends = a .ends; ends2 = 0; found = a .found }) f ∙
+        ap (λ (n : ℕ). record { outcome = Fine; kind = n; ends = a .ends; ends2 = 0; found = a .found }) q ∙
+        ap (λ (o : Result Ended). answerAs (answeredAs v c o)) (sym (fine-ended a said judged-is f))
 
-      pub lent-kept : (new lent : List ℕ) → lent ≡ lentAfter said new lent
-      lent-kept new lent = ap (λ (o : Result Ended). lentAfter o new lent) (sym refused-is)
+  answered-ended : (o : Result Ended) → endedIn (answeredAs v c o) ≡ o
+  answered-ended (ok x) = refl
+  answered-ended (refused which place stream) = refl
 
-    module _ (f : a .outcome ≡ Fine) where
-      fine-is : said ≡ ok (record { found = a .found; ends = a .ends })
-      fine-is = fine-ended a said judged-is f
+  answered-lent : (o : Result Ended) (new lent : List ℕ) → lentAfter (answeredAs v c o) new lent ≡ lentAfter o new lent
+  answered-lent (ok x) new lent = refl
+  answered-lent (refused which place stream) new lent = refl
 
-      pub read-fine : (k : ℕ) → k ≡ kindNumbered v (a .found .present) c
-          → _≡_ {A = C.Answer} (record { outcome = a .outcome; kind = k; ends = a .ends; ends2 = 0; found = a .found }) (answerAs (answeredAs v c said))
-      read-fine k q =
-          ap (λ (o : Outcome). record { outcome = o; kind = k; ends = a .ends; ends2 = 0; found = a .found }) f ∙
-          ap (λ (n : ℕ). record { outcome = Fine; kind = n; ends = a .ends; ends2 = 0; found = a .found }) q ∙
-          ap (λ (o : Result Ended). answerAs (answeredAs v c o)) (sym fine-is)
+  -- lent memory, by that answer
+  module _ (r : C.Answer) (q : r ≡ answerAs (answeredAs v c said)) where
+    pub lent-kept : (which place stream : ℕ) → r .outcome ≡ Refused which place stream → (new lent : List ℕ) → lent ≡ lentAfter said new lent
+    lent-kept which place stream f new lent =
+        sym (refused-keeps r (answeredAs v c said) q which place stream f new lent _ refl) ∙ answered-lent said new lent
 
-      reads : Read (length entries / 2) (length payload) blank (run t s 0) (record { found = a .found; ends = a .ends })
-      reads = judge-read s (length entries / 2) (length payload) blank (run t s 0) (record { found = a .found; ends = a .ends }) fine-is
+    module _ (f : r .outcome ≡ Fine) where
+      fine-is : said ≡ ok (record { found = r .found; ends = r .ends })
+      fine-is = sym (answered-ended said) ∙ ap endedIn (answer-fine r (answeredAs v c said) q f)
 
-      pub entries-reported : Reported (a .found .entries) (entriesOf (run t s 0)) entries
-      entries-reported =
-          let f = reads .fits (omega arith) (omega arith) in
+      reads : Read slots payload blank (run t s 0) (record { found = r .found; ends = r .ends })
+      reads = judge-read s slots payload blank (run t s 0) (record { found = r .found; ends = r .ends }) fine-is
+
+      entries-held : (r .found .entries ≡ 0 → entriesOf (run t s 0) ≡ []) × (length (entriesOf (run t s 0)) ≤ 2 * slots)
+      entries-held =
+          let g = reads .fits (omega arith) (omega arith) in
           let l = entries-length (run t s 0) in
-          let k : a .found .entries ≡ 0 + keptOf (run t s 0) = ap (λ (r : Record). r .entries) (reads .holds) ∙ record-room blank (run t s 0) .0 in
-          record { none = λ z. none-there (entriesOf (run t s 0)) (omega arith); room = omega (arith, f) }
+          let k : r .found .entries ≡ 0 + keptOf (run t s 0) = ap (λ (x : Record). x .entries) (reads .holds) ∙ record-room blank (run t s 0) .0 in
+          ((λ z. none-there (entriesOf (run t s 0)) (omega arith)), omega (arith, g))
 
-      pub payload-reported : Reported (a .found .payload) (payloadOf s (run t s 0)) payload
-      payload-reported =
-          let f = reads .fits (omega arith) (omega arith) in
+      pub entries-reported : (entries : List ℕ) → 2 * slots ≤ length entries → Reported (r .found .entries) (entriesOf (run t s 0)) entries
+      entries-reported entries h = record { none = entries-held .0; room = let l = entries-held .1 in omega arith }
+
+      pub bytes-reported : (entries : List ℕ) → 16 * slots ≤ length entries → Reported (r .found .entries) (bytesOf (entriesOf (run t s 0))) entries
+      bytes-reported entries h =
+          record {
+            none = λ z. ap bytesOf (entries-held .0 z) ∙ bytes-none;
+            room = let l = entries-held .1 in let m = bytes-length (entriesOf (run t s 0)) in omega arith;
+          }
+
+      pub payload-reported : (room : List ℕ) → payload ≡ length room → Reported (r .found .payload) (payloadOf s (run t s 0)) room
+      payload-reported room h =
+          let g = reads .fits (omega arith) (omega arith) in
           let l = payload-length s (run-placed t s 0 (omega arith)) in
-          let k : a .found .payload ≡ 0 + totalOf (run t s 0) = ap (λ (r : Record). r .payload) (reads .holds) ∙ record-room blank (run t s 0) .1 in
-          record { none = λ z. none-there (payloadOf s (run t s 0)) (omega arith); room = omega (arith, f) }
+          let k : r .found .payload ≡ 0 + totalOf (run t s 0) = ap (λ (x : Record). x .payload) (reads .holds) ∙ record-room blank (run t s 0) .1 in
+          record { none = λ z. none-there (payloadOf s (run t s 0)) (omega arith); room = omega (arith, g) }
 
       pub lent-fronted : (new lent out : List ℕ) → out ≡ fronted new lent → out ≡ lentAfter said new lent
       lent-fronted new lent out h = h ∙ ap (λ (o : Result Ended). lentAfter o new lent) (sym fine-is)

@@ -6,7 +6,7 @@ use mathlib.Core.Bool.{Bool}
 use lib.ListN.{length, getD, drop}
 use Rattle.layouts.specs.Primitive.{Version, Result, ok, refused}
 use Rattle.layouts.specs.Shape.{Tree, fail, layout, Group}
-use Rattle.layouts.specs.Pieces.{run, skipOf}
+use Rattle.layouts.specs.Pieces.{Pieces, run, skipOf}
 use Rattle.layouts.specs.Record.{blank}
 use Rattle.layouts.specs.Judge.{judgeOf, entriesOf, payloadOf, lentAfter}
 use Rattle.layouts.specs.Operations.{Kinds, kindOf}
@@ -49,17 +49,19 @@ module _ (v : Version) (k : Kinds) (slots room : ℕ) (s : List ℕ) (t : Tree) 
       row-answer a h = h ∙ ap answerAs row-is
 
       module _ (lent out : List ℕ) where
+        pub row-lent : (f : Pieces → List ℕ) → out ≡ lentAfter (judgeOf s slots room blank (run (layout v gs) s 0)) (f (run (layout v gs) s 0)) lent
+            → out ≡ lentAfter (readOf v k slots room s t) (f (run t s 0)) lent
+        row-lent f h =
+            h ∙ lent-by v k c q (judgeOf s slots room blank (run (layout v gs) s 0)) (f (run (layout v gs) s 0)) lent ∙
+            ap (λ (x : Tree). lentAfter (readOf v k slots room s x) (f (run x s 0)) lent) (sym e)
+
         pub row-entries : out ≡ lentAfter (judgeOf s slots room blank (run (layout v gs) s 0)) (entriesOf (run (layout v gs) s 0)) lent
             → out ≡ entriesAfter (readOf v k slots room s t) (run t s 0) lent
-        row-entries h =
-            h ∙ lent-by v k c q (judgeOf s slots room blank (run (layout v gs) s 0)) (entriesOf (run (layout v gs) s 0)) lent ∙
-            ap (λ (x : Tree). entriesAfter (readOf v k slots room s x) (run x s 0) lent) (sym e)
+        row-entries h = row-lent entriesOf h
 
         pub row-payload : out ≡ lentAfter (judgeOf s slots room blank (run (layout v gs) s 0)) (payloadOf s (run (layout v gs) s 0)) lent
             → out ≡ payloadAfter (readOf v k slots room s t) s (run t s 0) lent
-        row-payload h =
-            h ∙ lent-by v k c q (judgeOf s slots room blank (run (layout v gs) s 0)) (payloadOf s (run (layout v gs) s 0)) lent ∙
-            ap (λ (x : Tree). payloadAfter (readOf v k slots room s x) s (run x s 0) lent) (sym e)
+        row-payload h = row-lent (payloadOf s) h
 
 -- ---- skipped arguments: the one entry is lent two numbers 0
 first-kept : (es : List ℕ) → getD (es ++ drop (length es) (0 ∷ 0 ∷ [])) 0 0 ≡ getD es 0 0

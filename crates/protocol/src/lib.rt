@@ -3,7 +3,8 @@
 ghost use mathlib.Core.Path.{_≡_};
 ghost use Rattle.layouts.specs.Primitive.{version};
 ghost use Rattle.layouts.specs.Pieces.{run};
-ghost use Rattle.layouts.specs.Judge.{entriesOf, payloadOf, lentAfter};
+ghost use Rattle.layouts.specs.Record.{blank};
+ghost use Rattle.layouts.specs.Judge.{judgeOf, entriesOf, payloadOf, lentAfter};
 ghost use Rattle.layouts.specs.Calls.{argumentsTree, skippedTree, replyTree, skipOpArgs, skipDaemonResult, entriesAfter, payloadAfter};
 ghost use Rattle.walk.specs.Walk.{layoutPieces};
 ghost use Rattle.judge.specs.Judged.{answerAs, skipped};
@@ -13,7 +14,7 @@ use judge::Outcome;
 use judge::Skipped;
 use table::Found;
 
-const UNKNOWN_OPERATION: u64 = 9;
+pub const UNKNOWN_OPERATION: u64 = 9;
 
 // What skipped arguments answer: a kind, where they end, a count ("N paths", "N overrides") or one string, by start and length of its contents.
 pub struct Arguments {
@@ -36,7 +37,8 @@ fn fill_entries(s: &[u8], major: u16, minor: u8, run: usize, kept: usize, entrie
     }
 }
 
-fn join_payload(s: &[u8], major: u16, minor: u8, run: usize, total: usize, payload: &mut [u8])
+// Where there is no payload likewise.
+pub fn join_payload(s: &[u8], major: u16, minor: u8, run: usize, total: usize, payload: &mut [u8])
     requires { ⌜ Reported total (payloadOf (now s) (layoutPieces (version major minor) run (now s) 0)) (now payload) ⌝ }
     ensures { λ r. ⌜ now (payload .exit) ≡ fronted (payloadOf (now (s .entry)) (layoutPieces (version major minor) run (now (s .entry)) 0)) (now (payload .entry)) ⌝ }
 {
@@ -46,31 +48,19 @@ fn join_payload(s: &[u8], major: u16, minor: u8, run: usize, total: usize, paylo
     }
 }
 
-// The layout that starts at a run, and the kind of its answer.
-fn read(
+// Judges the layout that starts at a run, without writes, for room for so many entries and payload bytes. The kind of the answer is by its code.
+pub fn judge_run(
     s: &[u8],
     major: u16,
     minor: u8,
     run: usize,
     code: u8,
-    entries: &mut [u64],
-    payload: &mut [u8],
+    slots: usize,
+    room: usize,
 ) -> Answer
-    ensures answer { λ r. ⌜ r ≡ answerAs (answeredAs (version major minor) code (runRead (version major minor) run (now (s .entry)) (now (entries .entry)) (now (payload .entry)))) ⌝ }
-    ensures entries { λ r. ⌜ now (entries .exit) ≡ lentAfter (runRead (version major minor) run (now (s .entry)) (now (entries .entry)) (now (payload .entry))) (entriesOf (layoutPieces (version major minor) run (now (s .entry)) 0)) (now (entries .entry)) ⌝ }
-    ensures payload { λ r. ⌜ now (payload .exit) ≡ lentAfter (runRead (version major minor) run (now (s .entry)) (now (entries .entry)) (now (payload .entry))) (payloadOf (now (s .entry)) (layoutPieces (version major minor) run (now (s .entry)) 0)) (now (payload .entry)) ⌝ }
+    ensures { λ r. ⌜ r ≡ answerAs (answeredAs (version major minor) code (judgeOf (now (s .entry)) slots room blank (layoutPieces (version major minor) run (now (s .entry)) 0))) ⌝ }
 {
-    let slots = entries.len() / 2;
-    let a = judge::judge(
-        s,
-        0,
-        major,
-        minor,
-        run,
-        slots,
-        payload.len(),
-        judge::empty(),
-    );
+    let a = judge::judge(s, 0, major, minor, run, slots, room, judge::empty());
     let found = a.found;
     let o = a.outcome;
     match o {
@@ -86,8 +76,6 @@ fn read(
             found: found,
         },
         Outcome::Fine => {
-            fill_entries(s, major, minor, run, found.entries, entries);
-            join_payload(s, major, minor, run, found.payload, payload);
             let kind = table::kind_of(code, major, minor, found.present);
             Answer {
                 outcome: o,
@@ -98,6 +86,32 @@ fn read(
             }
         }
     }
+}
+
+// What is judged fine is filled in.
+fn read(
+    s: &[u8],
+    major: u16,
+    minor: u8,
+    run: usize,
+    code: u8,
+    entries: &mut [u64],
+    payload: &mut [u8],
+) -> Answer
+    ensures answer { λ r. ⌜ r ≡ answerAs (answeredAs (version major minor) code (runRead (version major minor) run (now (s .entry)) (now (entries .entry)) (now (payload .entry)))) ⌝ }
+    ensures entries { λ r. ⌜ now (entries .exit) ≡ lentAfter (runRead (version major minor) run (now (s .entry)) (now (entries .entry)) (now (payload .entry))) (entriesOf (layoutPieces (version major minor) run (now (s .entry)) 0)) (now (entries .entry)) ⌝ }
+    ensures payload { λ r. ⌜ now (payload .exit) ≡ lentAfter (runRead (version major minor) run (now (s .entry)) (now (entries .entry)) (now (payload .entry))) (payloadOf (now (s .entry)) (layoutPieces (version major minor) run (now (s .entry)) 0)) (now (payload .entry)) ⌝ }
+{
+    let slots = entries.len() / 2;
+    let a = judge_run(s, major, minor, run, code, slots, payload.len());
+    let found = a.found;
+    let o = a.outcome;
+    let Outcome::Fine = o else {
+        return a;
+    };
+    fill_entries(s, major, minor, run, found.entries, entries);
+    join_payload(s, major, minor, run, found.payload, payload);
+    a
 }
 
 pub fn read_op_args(

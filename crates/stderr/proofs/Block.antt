@@ -1,5 +1,5 @@
 -- The answers of the loop, and of the error block behind it.
-use Prim.Native.Nat.{ℕ, _/_}
+use Prim.Native.Nat.{ℕ, _*_, _≤_}
 use mathlib.Core.Path.{_≡_, refl, sym, _∙_, ap}
 use mathlib.Core.List.{List, []}
 use mathlib.Core.Bool.{Bool, true, false}
@@ -24,6 +24,8 @@ use Rattle.judge.specs.declared.Judged.{Judged}
 use Rattle.judge.specs.declared.Answer as C
 use Rattle.judge.specs.Judged.{judgedAs, answerAs}
 use Rattle.judge.proofs.Answers.{fine-ended, refused-ended}
+use Rattle.output.specs.Numbers.{bytesOf}
+use Rattle.output.proofs.Numbers.{bytes-none, bytes-length}
 use Rattle.fill.specs.Fill.{Put}
 use Rattle.fill.proofs.Room.{put-all}
 use Rattle.stderr.specs.declared.Stopped.{Stopped}
@@ -37,13 +39,13 @@ answerOf o = onward o (λ e. stderrAnswer (e .ends) (e .found))
 block-at : (s : List ℕ) (at : ℕ) → run (layout (version 0 0) (groupsAt errorBlockRun)) s at ≡ run errorBlock s at
 block-at s at = ap (λ (t : Tree). run t s at) (sym (others .error))
 
-module _ (s : List ℕ) (at : ℕ) (r : Record) (entries : List ℕ) (a : Judged)
-    (j : a ≡ judgedAs (judgeOf s (length entries / 2) 0 r (run (layout (version 0 0) (groupsAt errorBlockRun)) s at))) where
+module _ (s : List ℕ) (at : ℕ) (r : Record) (slots : ℕ) (a : Judged)
+    (j : a ≡ judgedAs (judgeOf s slots 0 r (run (layout (version 0 0) (groupsAt errorBlockRun)) s at))) where
   abbrev said : Result Ended
-  said = judgeOf s (length entries / 2) 0 r (run errorBlock s at)
+  said = judgeOf s slots 0 r (run errorBlock s at)
 
   judged-is : a ≡ judgedAs said
-  judged-is = j ∙ ap (λ (p : Pieces). judgedAs (judgeOf s (length entries / 2) 0 r p)) (block-at s at)
+  judged-is = j ∙ ap (λ (p : Pieces). judgedAs (judgeOf s slots 0 r p)) (block-at s at)
 
   module _ (which place stream : ℕ) (f : a .outcome ≡ Refused which place stream) where
     block-refused-is : said ≡ refused which place stream
@@ -54,8 +56,8 @@ module _ (s : List ℕ) (at : ℕ) (r : Record) (entries : List ℕ) (a : Judged
         ap (λ (x : Judged). record { outcome = x .outcome; kind = 0; ends = 0; ends2 = 0; found = x .found }) (judged-is ∙ ap judgedAs block-refused-is) ∙
         ap (λ (o : Result Ended). answerAs (answerOf o)) (sym block-refused-is)
 
-    pub block-kept : entries ≡ lentAfter said (entriesOf (run errorBlock s at)) entries
-    block-kept = ap (λ (o : Result Ended). lentAfter o (entriesOf (run errorBlock s at)) entries) (sym block-refused-is)
+    pub block-kept : (new lent : List ℕ) → lent ≡ lentAfter said new lent
+    block-kept new lent = ap (λ (o : Result Ended). lentAfter o new lent) (sym block-refused-is)
 
   module _ (f : a .outcome ≡ Fine) where
     block-fine-is : said ≡ ok (record { found = a .found; ends = a .ends })
@@ -64,16 +66,33 @@ module _ (s : List ℕ) (at : ℕ) (r : Record) (entries : List ℕ) (a : Judged
     pub block-fine : (x : C.Answer) → x ≡ answerAs (stderrAnswer (a .ends) (a .found)) → x ≡ answerAs (answerOf said)
     block-fine x e = e ∙ ap (λ (o : Result Ended). answerAs (answerOf o)) (sym block-fine-is)
 
-    pub block-filled : (out : List ℕ) (k : ℕ) → r .entries ≡ 0 → r .payload ≡ 0 → Put entries 0 (entriesOf (run (layout (version 0 0) (groupsAt errorBlockRun)) s at)) out k
-        → out ≡ lentAfter said (entriesOf (run errorBlock s at)) entries
-    block-filled out k z y p =
-        let reads : Read (length entries / 2) 0 r (run errorBlock s at) (record { found = a .found; ends = a .ends }) =
-        judge-read s (length entries / 2) 0 r (run errorBlock s at) (record { found = a .found; ends = a .ends }) block-fine-is in
+    block-fits : r .entries ≡ 0 → r .payload ≡ 0 → length (entriesOf (run errorBlock s at)) ≤ 2 * slots
+    block-fits z y =
+        let reads : Read slots 0 r (run errorBlock s at) (record { found = a .found; ends = a .ends }) =
+        judge-read s slots 0 r (run errorBlock s at) (record { found = a .found; ends = a .ends }) block-fine-is in
         let f = reads .fits (omega arith) (omega arith) in
         let l = entries-length (run errorBlock s at) in
-        let q : Put entries 0 (entriesOf (run errorBlock s at)) out k = rw (block-at s at) at p in
-        put-all entries (entriesOf (run errorBlock s at)) out k q (omega (arith, f)) ∙
-        ap (λ (o : Result Ended). lentAfter o (entriesOf (run errorBlock s at)) entries) (sym block-fine-is)
+        omega (arith, f)
+
+    -- in a form that fits the lent room
+    block-put : (form : List ℕ → List ℕ) (lent out : List ℕ) (k : ℕ) → length (form (entriesOf (run errorBlock s at))) ≤ length lent
+        → Put lent 0 (form (entriesOf (run (layout (version 0 0) (groupsAt errorBlockRun)) s at))) out k → out ≡ lentAfter said (form (entriesOf (run errorBlock s at))) lent
+    block-put form lent out k h p =
+        let q : Put lent 0 (form (entriesOf (run errorBlock s at))) out k = rw (block-at s at) at p in
+        put-all lent (form (entriesOf (run errorBlock s at))) out k q h ∙
+        ap (λ (o : Result Ended). lentAfter o (form (entriesOf (run errorBlock s at))) lent) (sym block-fine-is)
+
+    pub block-filled : (lent out : List ℕ) (k : ℕ) → 2 * slots ≤ length lent → r .entries ≡ 0 → r .payload ≡ 0
+        → Put lent 0 (entriesOf (run (layout (version 0 0) (groupsAt errorBlockRun)) s at)) out k → out ≡ lentAfter said (entriesOf (run errorBlock s at)) lent
+    block-filled lent out k h z y p = let l = block-fits z y in block-put (λ (es : List ℕ). es) lent out k (omega arith) p
+
+    pub block-bytes : (lent out : List ℕ) (k : ℕ) → 16 * slots ≤ length lent → r .entries ≡ 0 → r .payload ≡ 0
+        → Put lent 0 (bytesOf (entriesOf (run (layout (version 0 0) (groupsAt errorBlockRun)) s at))) out k
+        → out ≡ lentAfter said (bytesOf (entriesOf (run errorBlock s at))) lent
+    block-bytes lent out k h z y p =
+        let l = block-fits z y in
+        let m = bytes-length (entriesOf (run errorBlock s at)) in
+        block-put bytesOf lent out k (omega arith) p
 
 -- ---- the loop's answers
 module _ (s : List ℕ) (l : Stopped) (e : stoppedAs l ≡ stderrLoop s) where
@@ -119,12 +138,17 @@ module _ (s : List ℕ) (l : Stopped) (e : stoppedAs l ≡ stderrLoop s) where
       lent-answer (ok x) new lent = refl
       lent-answer (refused which place stream) new lent = refl
 
+      pub error-lent : (form : List ℕ → List ℕ) (lent out : List ℕ) → c ≡ Error
+          → out ≡ lentAfter (judgeOf s slots 0 r (run errorBlock s n)) (form (entriesOf (run errorBlock s n))) lent
+          → out ≡ lentAfter (readStderrWithError s slots) (form (entriesOf (errorPieces s (stderrLoop s)))) lent
+      error-lent form lent out z p =
+          p ∙ lent-answer (judgeOf s slots 0 r (run errorBlock s n)) (form (entriesOf (run errorBlock s n))) lent ∙
+          ap (λ (o : Result Answer). lentAfter o (form (entriesOf (run errorBlock s n))) lent) (sym (by-code true (eq-eqb c Error z))) ∙
+          ap (λ (y : Pieces). lentAfter (readStderrWithError s slots) (form (entriesOf y)) lent) (sym (pieces-by true (eq-eqb c Error z)))
+
       pub error-filled : (lent out : List ℕ) → c ≡ Error → out ≡ lentAfter (judgeOf s slots 0 r (run errorBlock s n)) (entriesOf (run errorBlock s n)) lent
           → out ≡ lentAfter (readStderrWithError s slots) (entriesOf (errorPieces s (stderrLoop s))) lent
-      error-filled lent out z p =
-          p ∙ lent-answer (judgeOf s slots 0 r (run errorBlock s n)) (entriesOf (run errorBlock s n)) lent ∙
-          ap (λ (o : Result Answer). lentAfter o (entriesOf (run errorBlock s n)) lent) (sym (by-code true (eq-eqb c Error z))) ∙
-          ap (λ (y : Pieces). lentAfter (readStderrWithError s slots) (entriesOf y) lent) (sym (pieces-by true (eq-eqb c Error z)))
+      error-filled = error-lent (λ (es : List ℕ). es)
 
       module _ (z : c ≡ Error → ⊥) where
         no-error-is : readStderrWithError s slots ≡ stderrAnswer n r
@@ -133,8 +157,14 @@ module _ (s : List ℕ) (l : Stopped) (e : stoppedAs l ≡ stderrLoop s) where
         pub no-error : (x : C.Answer) → x ≡ answerAs (stderrAnswer n r) → x ≡ answerAs (readStderrWithError s slots)
         no-error x p = p ∙ ap answerAs (sym no-error-is)
 
-        pub no-entries : (lent : List ℕ) → lent ≡ lentAfter (readStderrWithError s slots) (entriesOf (errorPieces s (stderrLoop s))) lent
+        no-lent : (form : List ℕ → List ℕ) → form [] ≡ [] → (lent : List ℕ) → lent ≡ lentAfter (readStderrWithError s slots) (form (entriesOf (errorPieces s (stderrLoop s)))) lent
         unfolding entriesOf
-        no-entries lent =
-            ap (λ (o : Result Answer). lentAfter o [] lent) (sym no-error-is) ∙
-            ap (λ (y : Pieces). lentAfter (readStderrWithError s slots) (entriesOf y) lent) (sym (pieces-by false (ne-eqb c Error z)))
+        no-lent form e lent =
+            ap (λ (o : Result Answer). lentAfter o [] lent) (sym no-error-is) ∙ ap (λ (l : List ℕ). lentAfter (readStderrWithError s slots) l lent) (sym e) ∙
+            ap (λ (y : Pieces). lentAfter (readStderrWithError s slots) (form (entriesOf y)) lent) (sym (pieces-by false (ne-eqb c Error z)))
+
+        pub no-entries : (lent : List ℕ) → lent ≡ lentAfter (readStderrWithError s slots) (entriesOf (errorPieces s (stderrLoop s))) lent
+        no-entries = no-lent (λ (es : List ℕ). es) refl
+
+        pub no-bytes : (lent : List ℕ) → lent ≡ lentAfter (readStderrWithError s slots) (bytesOf (entriesOf (errorPieces s (stderrLoop s)))) lent
+        no-bytes = no-lent bytesOf bytes-none

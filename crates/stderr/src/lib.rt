@@ -7,6 +7,7 @@ ghost use Rattle.layouts.specs.Pieces.{run};
 ghost use Rattle.layouts.specs.Judge.{judgeOf, entriesOf, lentAfter};
 ghost use Rattle.layouts.specs.Stderr.{messageOf, errorBlock, stderrLoop, stderrAnswer, readStderrLoop, readStderrWithError, errorPieces};
 ghost use Rattle.codes.specs.Stderr.{codeNumber};
+ghost use Rattle.output.specs.Numbers.{bytesOf};
 ghost use Rattle.judge.specs.Judged.{answerAs};
 ghost use Rattle.stderr.specs.Loop.{said, stoppedAs, recordFor};
 use codes::stderr::StderrCode;
@@ -197,6 +198,56 @@ pub fn read_stderr_with_error(s: &[u8], entries: &mut [u64]) -> Answer
             let r = stopped_record(messages, code);
             if code == StderrCode::Error.number() {
                 return read_error_block(s, ends, r, entries);
+            }
+            answer(ends, r)
+        }
+    }
+}
+
+// The same with entries of sixteen bytes.
+fn read_error_block_bytes(s: &[u8], at: usize, sofar: Record, entries: &mut [u8]) -> Answer
+    requires { ⌜ (sofar .entries ≡ 0) × (sofar .payload ≡ 0) ⌝ }
+    ensures answer { λ r. ⌜ r ≡ answerAs (onward (judgeOf (now (s .entry)) (length (now (entries .entry)) / 16) 0 sofar (run errorBlock (now (s .entry)) at)) (λ e. stderrAnswer (e .ends) (e .found))) ⌝ }
+    ensures entries { λ r. ⌜ now (entries .exit) ≡ lentAfter (judgeOf (now (s .entry)) (length (now (entries .entry)) / 16) 0 sofar (run errorBlock (now (s .entry)) at)) (bytesOf (entriesOf (run errorBlock (now (s .entry)) at))) (now (entries .entry)) ⌝ }
+{
+    let slots = entries.len() / 16;
+    let a = judge::judge(s, at, 0, 0, table::ERROR_BLOCK_RUN, slots, 0, sofar);
+    let found = a.found;
+    let o = a.outcome;
+    match o {
+        Outcome::Refused {
+            which: _,
+            place: _,
+            stream: _,
+        } => Answer {
+            outcome: o,
+            kind: 0,
+            ends: 0,
+            ends2: 0,
+            found,
+        },
+        Outcome::Fine => {
+            fill::fill_entry_bytes(s, at, 0, 0, table::ERROR_BLOCK_RUN, entries, 0);
+            answer(a.ends, found)
+        }
+    }
+}
+
+pub fn read_stderr_with_error_bytes(s: &[u8], entries: &mut [u8]) -> Answer
+    ensures answer { λ r. ⌜ r ≡ answerAs (readStderrWithError (now (s .entry)) (length (now (entries .entry)) / 16)) ⌝ }
+    ensures entries { λ r. ⌜ now (entries .exit) ≡ lentAfter (readStderrWithError (now (s .entry)) (length (now (entries .entry)) / 16)) (bytesOf (entriesOf (errorPieces (now (s .entry)) (stderrLoop (now (s .entry)))))) (now (entries .entry)) ⌝ }
+{
+    let l = stderr_loop(s);
+    match l {
+        Stopped::Refused { which, place } => judge::refused_answer(which, place),
+        Stopped::Stops {
+            messages,
+            code,
+            ends,
+        } => {
+            let r = stopped_record(messages, code);
+            if StderrCode::Error.number() == code {
+                return read_error_block_bytes(s, ends, r, entries);
             }
             answer(ends, r)
         }

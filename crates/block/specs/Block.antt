@@ -1,0 +1,35 @@
+-- The answer of a call as a block of 25 numbers, for the C boundary.
+use Prim.Native.Nat.{ℕ}
+use mathlib.Core.List.{List, [], _∷_, _++_}
+use lib.ListN.{length, getD, drop}
+use lib.Dec.{leb}
+use Rattle.layouts.specs.Primitive.{pick, outputFull, Result, refused}
+use Rattle.layouts.specs.Calls as L
+use Rattle.judge.specs.declared.Outcome.{Outcome}
+use Rattle.judge.specs.declared.Outcome.the-variants.{Fine, Refused}
+use Rattle.judge.specs.declared.Answer.{Answer}
+use Rattle.judge.specs.Judged.{answerAs}
+use Rattle.output.specs.Numbers.{bytesOf}
+
+abbrev pub refusalOf : Outcome → List ℕ
+refusalOf Fine = 0 ∷ 0 ∷ 0 ∷ []
+refusalOf (Refused which place stream) = which ∷ place ∷ stream ∷ []
+
+-- number, place, stream; kind, end, end2, entries, payload; twelve numbers; three counts; two that are kept for later
+abbrev pub numbersOf : Answer → List ℕ
+numbersOf a =
+    refusalOf (a .outcome) ++
+    (a .kind ∷ a .ends ∷ a .ends2 ∷ a .found .entries ∷ a .found .payload ∷ (a .found .numbers ++ (a .found .counts ++ (0 ∷ 0 ∷ []))))
+
+-- ---- what a call at the boundary does, by what it has to say
+-- a block that is too short is refused before all else
+abbrev pub guarded : {A : Type 0} → (block : List ℕ) → Result A → Result A
+guarded block o = pick (leb 200 (length block)) o (refused outputFull 0 0)
+
+-- the number that is returned: the block's first
+abbrev pub numberOf : (block : List ℕ) → Result L.Answer → ℕ
+numberOf block o = getD (numbersOf (answerAs (guarded block o))) 0 0
+
+-- a longer block keeps its other bytes
+abbrev pub blockAfter : (block : List ℕ) → Result L.Answer → List ℕ
+blockAfter block o = pick (leb 200 (length block)) (bytesOf (numbersOf (answerAs o)) ++ drop 200 block) block

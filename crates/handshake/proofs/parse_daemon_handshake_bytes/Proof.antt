@@ -1,0 +1,45 @@
+use borrow.Author.Needs.{needs}
+use Rattle.handshake.proofs.parse_daemon_handshake_bytes.Statement.{statement}
+use Rattle.handshake.proofs.parse_daemon_handshake_bytes.Tie as tie
+use denote.Ref.{now}
+use Prim.Native.Nat.{_/_}
+use lib.ListN.{length}
+use mathlib.Core.List.{[]}
+use Rattle.layouts.specs.Primitive.{version}
+use Rattle.codes.specs.Handshake.{versionOf}
+use Rattle.output.specs.Numbers.{bytesOf}
+use Rattle.handshake.proofs.Whole.{as-bytes, DaemonRead, daemon-left, daemon-refused, daemon-fine}
+
+read : (c : tie.After-answer) → DaemonRead [] (now (c .before .before .before .before .before .before .before .before .before .before .before .before .before .args .daemon)) (length (now (c .before .before .before .before .before .before .before .before .before .before .before .before .before .args .entries)) / 16) (versionOf (c .before .before .before .before .negotiated .result)) (version (c .before .before .before .before .before .before .before .before .before .before .before .before .before .args .major) (c .before .before .before .before .before .before .before .before .before .before .before .before .before .args .minor)) (c .before .before .before .before .before .before .require-daemon-magic .result) (c .before .before .before .turn2 .result) (c .before .require-last .result)
+read c = daemon-left [] (now (c .before .before .before .before .before .before .before .before .before .before .before .before .before .args .daemon)) (length (now (c .before .before .before .before .before .before .before .before .before .before .before .before .before .args .entries)) / 16) (versionOf (c .before .before .before .before .before .before .before .before .before .new2 .result)) (versionOf (c .before .before .before .before .negotiated .result)) (c .before .before .before .before .before .before .before .before .before .new2 .ensures) (c .before .before .before .before .before .before .before .before .nothing .result) (c .before .before .before .before .before .before .before .before .nothing .ensures)
+    (version (c .before .before .before .before .before .before .before .before .before .before .before .before .before .args .major) (c .before .before .before .before .before .before .before .before .before .before .before .before .before .args .minor)) (c .before .before .before .before .before .before .before .turn .result) (c .before .before .before .before .before .before .require-daemon-magic .result) (c .before .before .before .turn2 .result) (c .before .before .turn3 .result) (c .before .require-last .result)
+    (c .before .before .before .before .before .before .before .turn .ensures) (c .before .before .before .before .before .before .require-daemon-magic .ensures) (versionOf (c .before .before .before .before .before .before .before .before .before .before .new .result)) (versionOf (c .before .before .before .before .before .server-version .result)) (c .before .before .before .before .negotiated .ensures) (c .before .before .before .before .before .before .before .before .before .before .new .ensures) (c .before .before .before .before .before .server-version .ensures)
+    (c .before .before .before .turn2 .ensures) (c .before .before .turn3 .ensures) (c .before .require-last .ensures)
+
+returns : tie.Need-returns
+returns c = daemon-refused (now (c .before .before .before .before .before .before .before .before .before .before .before .before .before .before .before .args .daemon)) (now (c .before .before .before .before .before .before .before .before .before .before .before .before .before .before .before .args .entries)) (length (now (c .before .before .before .before .before .before .before .before .before .before .before .before .before .before .before .args .entries)) / 16) bytesOf (as-bytes (now (c .before .before .before .before .before .before .before .before .before .before .before .before .before .before .before .args .entries))) (versionOf (c .before .before .before .before .before .before .negotiated .result)) (version (c .before .before .before .before .before .before .before .before .before .before .before .before .before .before .before .args .major) (c .before .before .before .before .before .before .before .before .before .before .before .before .before .before .before .args .minor)) (c .before .before .before .before .before .before .before .before .require-daemon-magic .result) (c .before .before .before .before .before .turn2 .result) (c .before .before .before .require-last .result) (read (c .before .before)) (versionOf (c .before .before .before .before .before .before .before .before .before .before .before .before .new .result)) (c .before .before .before .before .before .before .before .before .before .before .before .before .new .ensures) (c .before .before .answer .result) (c .before .before .answer .ensures) _ _ _ (c .enum-told2 .given .1)
+
+returns-2 : tie.Need-returns-2
+returns-2 c = daemon-fine (now (c .before .before .before .before .before .before .before .before .before .before .before .before .before .before .before .before .before .before .before .args .daemon)) (now (c .before .before .before .before .before .before .before .before .before .before .before .before .before .before .before .before .before .before .before .args .entries)) (length (now (c .before .before .before .before .before .before .before .before .before .before .before .before .before .before .before .before .before .before .before .args .entries)) / 16) bytesOf (as-bytes (now (c .before .before .before .before .before .before .before .before .before .before .before .before .before .before .before .before .before .before .before .args .entries))) (versionOf (c .before .before .before .before .before .before .before .before .before .before .negotiated .result)) (version (c .before .before .before .before .before .before .before .before .before .before .before .before .before .before .before .before .before .before .before .args .major) (c .before .before .before .before .before .before .before .before .before .before .before .before .before .before .before .before .before .before .before .args .minor)) (c .before .before .before .before .before .before .before .before .before .before .before .before .require-daemon-magic .result) (c .before .before .before .before .before .before .before .before .before .turn2 .result) (c .before .before .before .before .before .before .before .require-last .result) (read (c .before .before .before .before .before .before)) (versionOf (c .before .before .before .before .before .before .before .before .before .before .before .before .before .before .before .before .new .result)) (c .before .before .before .before .before .before .before .before .before .before .before .before .before .before .before .before .new .ensures) (c .before .before .before .before .before .before .answer .result) (c .before .before .before .before .before .before .answer .ensures) (c .before .before .before .before .enum-told .given .1) _ _ (c .before .before .fill-daemon-bytes .ensures)
+
+pub parse-daemon-handshake-bytes-spec : {M : Type 1} → statement M
+parse-daemon-handshake-bytes-spec =
+    tie.close
+    (tie.spec
+    (λ c κs. search needs)
+    (λ c κs. search needs)
+    (λ c κs. search needs)
+    (λ c κs. search needs)
+    (λ c κs. search needs)
+    (λ c κs. search needs)
+    (λ c κs. search needs)
+    (λ c κs. search needs)
+    (λ c κs. search needs)
+    (λ c κs. search needs)
+    (λ c κs. search needs)
+    (λ c. search needs)
+    (λ c. search needs)
+    returns
+    (λ c κs. search needs)
+    (λ c. search needs)
+    returns-2)

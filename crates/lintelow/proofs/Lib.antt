@@ -1,0 +1,2 @@
+-- `Unique`: each exported contract has one answer.
+pub mod Unique

@@ -1,0 +1,20 @@
+-- `skips::skip_daemon_result` meets its contract: the end or the refusal, with a blank record.
+use borrow.Author.Needs.{needs}
+use Rattle.skips.proofs.skip_daemon_result.Statement.{statement}
+use Rattle.skips.proofs.skip_daemon_result.Tie as tie
+use mathlib.Core.Path.{ap}
+use Rattle.layouts.specs.declared.Record.{Record}
+use Rattle.judge.specs.declared.Outcome.the-variants.{Fine, Refused}
+use Rattle.skips.proofs.Laws.{result-is}
+
+pub skip-daemon-result-spec : {M : Type 1} → statement M
+skip-daemon-result-spec =
+    tie.close
+    (tie.spec
+    (λ c κs. search needs)
+    (λ c. search needs)
+    (λ c κs. search needs)
+    (λ c. search needs)
+    (λ c κs. search needs)
+    (λ c. result-is _ _ _ (c .before .before .before .before .skip-daemon-result .ensures) (c .before .before .k .given .1) _ (ap (λ (x : Record). record { outcome = Fine; kind = 0; ends = c .before .before .k .given .0 .0; ends2 = 0; found = x }) (c .empty .ensures)))
+    (λ c. result-is _ _ _ (c .before .before .before .before .skip-daemon-result .ensures) (c .before .before .k2 .given .1) _ (ap (λ (x : Record). record { outcome = Refused (c .before .before .k2 .given .0 .0) (c .before .before .k2 .given .0 .1 .0) 0; kind = 0; ends = 0; ends2 = 0; found = x }) (c .empty2 .ensures))))

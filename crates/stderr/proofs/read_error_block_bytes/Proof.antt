@@ -1,0 +1,20 @@
+-- `stderr::read_error_block_bytes` meets its contract: what is judged fine fits.
+use borrow.Author.Needs.{needs}
+use Rattle.stderr.proofs.read_error_block_bytes.Statement.{statement}
+use Rattle.stderr.proofs.read_error_block_bytes.Tie as tie
+use denote.Ref.{now}
+use native.Mathlib.Omega.{arith}
+use Rattle.stderr.proofs.Block.{block-refused, block-kept, block-fine, block-bytes}
+
+pub read-error-block-bytes-spec : {M : Type 1} → statement M
+read-error-block-bytes-spec =
+    tie.close
+    (tie.spec
+    (λ c κs. search needs)
+    (λ c. search needs)
+    (λ c. search needs)
+    (λ c κs. search needs)
+    (λ c κs. search needs)
+    (λ c. (block-refused (now (c .before .before .before .before .before .before .args .s)) (c .before .before .before .before .before .before .args .at) (c .before .before .before .before .before .before .args .sofar) _ _ (c .before .before .before .judge .ensures) _ _ _ (c .enum-told .given .1), block-kept (now (c .before .before .before .before .before .before .args .s)) (c .before .before .before .before .before .before .args .at) (c .before .before .before .before .before .before .args .sofar) _ _ (c .before .before .before .judge .ensures) _ _ _ (c .enum-told .given .1) _ _))
+    (λ c. c .before .before .before .fill-entry-bytes .ensures .size)
+    (λ c. (block-fine (now (c .before .before .before .before .before .before .before .before .before .before .before .args .s)) (c .before .before .before .before .before .before .before .before .before .before .before .args .at) (c .before .before .before .before .before .before .before .before .before .before .before .args .sofar) _ _ (c .before .before .before .before .before .before .before .before .judge .ensures) (c .before .before .before .before .before .enum-told2 .given .1) _ (c .answer .ensures), block-bytes (now (c .before .before .before .before .before .before .before .before .before .before .before .args .s)) (c .before .before .before .before .before .before .before .before .before .before .before .args .at) (c .before .before .before .before .before .before .before .before .before .before .before .args .sofar) _ _ (c .before .before .before .before .before .before .before .before .judge .ensures) (c .before .before .before .before .before .enum-told2 .given .1) (now (c .before .before .before .before .before .before .before .before .before .before .before .args .entries)) _ _ (omega arith) (c .before .before .before .before .before .before .before .before .before .before .before .pre .0) (c .before .before .before .before .before .before .before .before .before .before .before .pre .1) (c .before .before .before .fill-entry-bytes .ensures))))
