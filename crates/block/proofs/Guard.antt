@@ -1,44 +1,34 @@
--- A call at the boundary: a block that is too short is refused, else the call's own answer holds.
+-- A call at the boundary: a block that is too short is refused, else what was put is the call's answer and its lent room holds.
 use Prim.Native.Nat.{ℕ, _≤_, _<_}
 use mathlib.Core.Path.{_≡_, sym, _∙_, ap}
-use mathlib.Core.List.{List, _++_}
-use mathlib.Core.Bool.{Bool, true, false}
-use lib.ListN.{length, getD, drop}
-use lib.Dec.{leb}
+use mathlib.Core.List.{List}
+use mathlib.Core.Bool.{Bool}
+use lib.ListN.{length}
 use borrow.Author.Tests.{le-leb, lt-leb}
 use Rattle.layouts.specs.Primitive.{pick, outputFull, Result, refused}
 use Rattle.layouts.specs.Judge.{lentAfter}
-use Rattle.layouts.specs.Calls as L
 use Rattle.judge.specs.declared.Answer.{Answer}
-use Rattle.judge.specs.Judged.{answerAs}
-use Rattle.output.specs.Numbers.{bytesOf}
-use Rattle.block.specs.Block.{numbersOf, guarded, numberOf, blockAfter}
+use Rattle.block.specs.Block.{guarded, numberOf, blockAfter}
+use Rattle.block.proofs.Laws.{put-short}
 
-module _ (block : List ℕ) (o : Result L.Answer) where
-  module _ (h : length block < 200) where
-    short-is : guarded block o ≡ refused outputFull 0 0
-    short-is = ap (λ (b : Bool). pick b o (refused outputFull 0 0)) (lt-leb 200 (length block) h)
+module _ (block : List ℕ) (b : Answer) where
+  pub short-number : length block < 200 → 10 ≡ numberOf block b
+  short-number h = put-short b block h .0
 
-    pub short-number : 10 ≡ numberOf block o
-    short-number = ap (λ (x : Result L.Answer). getD (numbersOf (answerAs x)) 0 0) (sym short-is)
+  pub short-block : length block < 200 → block ≡ blockAfter block b
+  short-block h = put-short b block h .1
 
-    pub short-block : block ≡ blockAfter block o
-    short-block = ap (λ (b : Bool). pick b (bytesOf (numbersOf (answerAs o)) ++ drop 200 block) block) (sym (lt-leb 200 (length block) h))
+  pub told-number : (a : Answer) (r : ℕ) → a ≡ b → r ≡ numberOf block a → r ≡ numberOf block b
+  told-number a r e q = q ∙ ap (numberOf block) e
 
-    pub short-lent : (new lent : List ℕ) → lent ≡ lentAfter (guarded block o) new lent
-    short-lent new lent = ap (λ (x : Result L.Answer). lentAfter x new lent) (sym short-is)
+  pub told-block : (a : Answer) (out : List ℕ) → a ≡ b → out ≡ blockAfter block a → out ≡ blockAfter block b
+  told-block a out e q = q ∙ ap (blockAfter block) e
 
-  module _ (h : 200 ≤ length block) where
-    long-is : o ≡ guarded block o
-    long-is = ap (λ (b : Bool). pick b o (refused outputFull 0 0)) (sym (le-leb 200 (length block) h))
+module _ {A : Type 0} (block : List ℕ) (o : Result A) (new lent : List ℕ) where
+  pub short-lent : length block < 200 → lent ≡ lentAfter (guarded block o) new lent
+  unfolding guarded
+  short-lent h = ap (λ (b : Bool). lentAfter (pick b o (refused outputFull 0 0)) new lent) (sym (lt-leb 200 (length block) h))
 
-    pub long-number : (a : Answer) (r : ℕ) → a ≡ answerAs o → r ≡ getD (numbersOf a) 0 0 → r ≡ numberOf block o
-    long-number a r e q = q ∙ ap (λ (x : Answer). getD (numbersOf x) 0 0) (e ∙ ap answerAs long-is)
-
-    pub long-block : (a : Answer) (out : List ℕ) → a ≡ answerAs o → out ≡ bytesOf (numbersOf a) ++ drop 200 block → out ≡ blockAfter block o
-    long-block a out e q =
-        q ∙ ap (λ (x : Answer). bytesOf (numbersOf x) ++ drop 200 block) e ∙
-        ap (λ (b : Bool). pick b (bytesOf (numbersOf (answerAs o)) ++ drop 200 block) block) (sym (le-leb 200 (length block) h))
-
-    pub long-lent : (new lent out : List ℕ) → out ≡ lentAfter o new lent → out ≡ lentAfter (guarded block o) new lent
-    long-lent new lent out q = q ∙ ap (λ (x : Result L.Answer). lentAfter x new lent) long-is
+  pub long-lent : 200 ≤ length block → (out : List ℕ) → out ≡ lentAfter o new lent → out ≡ lentAfter (guarded block o) new lent
+  unfolding guarded
+  long-lent h out q = q ∙ ap (λ (b : Bool). lentAfter (pick b o (refused outputFull 0 0)) new lent) (sym (le-leb 200 (length block) h))

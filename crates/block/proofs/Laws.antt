@@ -2,16 +2,19 @@
 use Prim.Native.Nat.{ℕ, zero, suc, _+_, _*_, _≤_, _<_}
 use mathlib.Core.Path.{_≡_, refl, sym, _∙_, ap}
 use mathlib.Core.List.{List, [], _∷_, _++_}
+use mathlib.Core.Bool.{Bool}
 use native.Mathlib.Omega.{arith}
 use lib.ListN.{length, getD, take, drop, drop-of-length-le}
-use lib.Seq.{sets, sets-eq, length-sets, drop-cons, take-all}
-use Rattle.layouts.specs.Primitive.{numberBytes}
+use lib.Seq.{sets-eq, drop-cons, take-all}
+use borrow.Author.Tests.{le-leb, lt-leb}
+use Rattle.layouts.specs.Primitive.{pick, numberBytes}
 use Rattle.layouts.proofs.Little.{length-number}
 use Rattle.judge.specs.declared.Answer.{Answer}
 use Rattle.output.specs.Numbers.{bytesOf}
-use Rattle.output.proofs.Laws.{then}
-use Rattle.output.proofs.Numbers.{bytes-length, bytes-step}
-use Rattle.block.specs.Block.{refusalOf, numbersOf}
+use Rattle.output.specs.Placed.{placed}
+use Rattle.output.proofs.Laws.{placed-fits, Filling, filling-start, filling-turn, filling-end}
+use Rattle.output.proofs.Numbers.{bytes-none, bytes-length, bytes-step}
+use Rattle.block.specs.Block.{refusalOf, numbersOf, numberOf, blockAfter}
 
 -- n elements from k on, by their indices
 abbrev span : ℕ → ℕ → List ℕ → List ℕ
@@ -38,36 +41,38 @@ module _ (a : Answer) where
       ap (λ (x : List ℕ). refusalOf (a .outcome) ++ rest x (span 3 0 (a .found .counts))) (span-all 12 (a .found .numbers) l) ∙
       ap (λ (x : List ℕ). refusalOf (a .outcome) ++ rest (a .found .numbers) x) (span-all 3 (a .found .counts) m)
 
--- the numbers from i on are to come
-pub record Putting (lent ns out : List ℕ) (i : ℕ) : Type 0 where
-  pub size : length out ≡ length lent
-  pub same : sets out (8 * i) (bytesOf (drop i ns)) ≡ sets lent 0 (bytesOf ns)
-
+-- ---- the numbers from i on are to come
 module _ (lent ns : List ℕ) where
-  pub putting-none : Putting lent ns lent 0
-  putting-none = record { size = refl; same = refl }
+  abbrev pub Putting : List ℕ → ℕ → Type 0
+  Putting out i = Filling lent 0 (bytesOf ns) out (8 * i) (bytesOf (drop i ns))
 
-  module _ (out : List ℕ) (i : ℕ) (p : Putting lent ns out i) where
-    pub putting-more : (out' : List ℕ) → i < length ns → out' ≡ sets out (8 * i) (numberBytes (getD ns i 0)) → Putting lent ns out' (i + 1)
+  pub putting-none : 8 * length ns ≤ length lent → Putting lent 0
+  putting-none h = filling-start lent 0 (bytesOf ns) (omega (arith, bytes-length ns))
+
+  module _ (out : List ℕ) (i : ℕ) (p : Putting out i) where
+    pub putting-more : (out' : List ℕ) → i < length ns → out' ≡ placed (8 * i) (numberBytes (getD ns i 0)) out → Putting out' (i + 1)
     putting-more out' h e =
         let l = length-number (getD ns i 0) in
-        record {
-          size = ap length e ∙ length-sets out (8 * i) (numberBytes (getD ns i 0)) ∙ p .size;
-          same = then out out' _ (8 * i) (8 * (i + 1)) (numberBytes (getD ns i 0)) (bytesOf (drop (i + 1) ns)) (omega arith) e refl ∙ ap (sets out (8 * i)) (sym (bytes-step ns i h)) ∙ p .same;
-        }
+        filling-turn lent 0 (bytesOf ns) out (8 * i) (bytesOf (drop i ns)) p (numberBytes (getD ns i 0)) (bytesOf (drop (i + 1) ns)) (bytes-step ns i h) out' (8 * (i + 1)) (omega arith) e
 
-    pub putting-all : length ns ≤ i → out ≡ sets lent 0 (bytesOf ns)
-    unfolding bytesOf
-    putting-all h = sym (ap (λ (l : List ℕ). sets out (8 * i) (bytesOf l)) (drop-of-length-le ns {i = i} h)) ∙ p .same
+    pub putting-all : length ns ≤ i → out ≡ placed 0 (bytesOf ns) lent
+    putting-all h = filling-end lent 0 (bytesOf ns) out (8 * i) (bytesOf (drop i ns)) p (ap bytesOf (drop-of-length-le ns {i = i} h) ∙ bytes-none)
 
--- all of them at the start of the block
-module _ (a : Answer) (block ns out : List ℕ) (e : (ns ≡ numbersOf a) × (length ns ≡ 25)) where
-  pub put-number : getD ns 0 0 ≡ getD (numbersOf a) 0 0
-  put-number = ap (λ (l : List ℕ). getD l 0 0) (e .0)
+-- ---- all of them at the start of the block
+module _ (a : Answer) (block : List ℕ) where
+  pub put-short : length block < 200 → (10 ≡ numberOf block a) × (block ≡ blockAfter block a)
+  unfolding numberOf blockAfter
+  put-short h = simp (lt-leb 200 (length block) h) (refl, refl)
 
-  pub put-block : 200 ≤ length block → out ≡ sets block 0 (bytesOf ns) → out ≡ bytesOf (numbersOf a) ++ drop 200 block
-  put-block h q =
+  pub put-long : 200 ≤ length block → (ns out : List ℕ) → (ns ≡ numbersOf a) × (length ns ≡ 25) → out ≡ placed 0 (bytesOf ns) block
+      → (getD ns 0 0 ≡ numberOf block a) × (out ≡ blockAfter block a)
+  unfolding numberOf blockAfter
+  put-long h ns out e q =
       let l = bytes-length ns in
       let m = e .1 in
       let n : 0 + length (bytesOf ns) ≡ 200 = omega arith in
-      q ∙ sets-eq (bytesOf ns) block 0 (omega arith) ∙ ap (λ (k : ℕ). bytesOf ns ++ drop k block) n ∙ ap (λ (x : List ℕ). bytesOf x ++ drop 200 block) (e .0)
+      let t = sym (le-leb 200 (length block) h) in (
+        ap (λ (x : List ℕ). getD x 0 0) (e .0) ∙ ap (λ (b : Bool). pick b (getD (numbersOf a) 0 0) 10) t,
+        q ∙ placed-fits 0 (bytesOf ns) block (omega arith) ∙ sets-eq (bytesOf ns) block 0 (omega arith) ∙ ap (λ (k : ℕ). bytesOf ns ++ drop k block) n ∙
+            ap (λ (x : List ℕ). bytesOf x ++ drop 200 block) (e .0) ∙ ap (λ (b : Bool). pick b (bytesOf (numbersOf a) ++ drop 200 block) block) t,
+      )

@@ -4,11 +4,9 @@ use mathlib.Core.List.{List, [], _∷_, _++_}
 use lib.ListN.{length, getD, drop}
 use lib.Dec.{leb}
 use Rattle.layouts.specs.Primitive.{pick, outputFull, Result, refused}
-use Rattle.layouts.specs.Calls as L
 use Rattle.judge.specs.declared.Outcome.{Outcome}
 use Rattle.judge.specs.declared.Outcome.the-variants.{Fine, Refused}
 use Rattle.judge.specs.declared.Answer.{Answer}
-use Rattle.judge.specs.Judged.{answerAs}
 use Rattle.output.specs.Numbers.{bytesOf}
 
 abbrev pub refusalOf : Outcome → List ℕ
@@ -23,13 +21,13 @@ numbersOf a =
 
 -- ---- what a call at the boundary does, by what it has to say
 -- a block that is too short is refused before all else
-abbrev pub guarded : {A : Type 0} → (block : List ℕ) → Result A → Result A
+unfoldable pub guarded : {A : Type 0} → (block : List ℕ) → Result A → Result A
 guarded block o = pick (leb 200 (length block)) o (refused outputFull 0 0)
 
 -- the number that is returned: the block's first
-abbrev pub numberOf : (block : List ℕ) → Result L.Answer → ℕ
-numberOf block o = getD (numbersOf (answerAs (guarded block o))) 0 0
+unfoldable pub numberOf : (block : List ℕ) → Answer → ℕ
+numberOf block a = pick (leb 200 (length block)) (getD (numbersOf a) 0 0) outputFull
 
 -- a longer block keeps its other bytes
-abbrev pub blockAfter : (block : List ℕ) → Result L.Answer → List ℕ
-blockAfter block o = pick (leb 200 (length block)) (bytesOf (numbersOf (answerAs o)) ++ drop 200 block) block
+unfoldable pub blockAfter : (block : List ℕ) → Answer → List ℕ
+blockAfter block a = pick (leb 200 (length block)) (bytesOf (numbersOf a) ++ drop 200 block) block

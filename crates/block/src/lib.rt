@@ -1,13 +1,14 @@
 // The answer of a call as bytes: a block of 25 numbers of eight bytes, at the start of lent bytes.
 ghost use mathlib.Core.Path.{_≡_};
-ghost use mathlib.Core.List.{_++_};
 ghost use Prim.Native.Nat.{_*_, _≤_};
-ghost use lib.ListN.{length, getD, drop};
-ghost use lib.Seq.{sets};
+ghost use lib.ListN.{length};
 ghost use Rattle.output.specs.Numbers.{bytesOf};
-ghost use Rattle.block.specs.Block.{refusalOf, numbersOf};
+ghost use Rattle.output.specs.Placed.{placed};
+ghost use Rattle.block.specs.Block.{refusalOf, numbersOf, numberOf, blockAfter};
 use judge::Answer;
 use judge::Outcome;
+
+const BLOCK: usize = 200;
 
 fn refusal(o: Outcome) -> [u64; 3]
     ensures { λ r. ⌜ (r ≡ refusalOf o) × (length r ≡ 3) ⌝ }
@@ -61,7 +62,7 @@ fn numbers(a: Answer) -> [u64; 25]
 
 fn put_numbers(out: &mut [u8], ns: &[u64])
     requires { ⌜ 8 * length (now ns) ≤ length (now out) ⌝ }
-    ensures { λ r. ⌜ now (out .exit) ≡ sets (now (out .entry)) 0 (bytesOf (now (ns .entry))) ⌝ }
+    ensures { λ r. ⌜ now (out .exit) ≡ placed 0 (bytesOf (now (ns .entry))) (now (out .entry)) ⌝ }
 {
     let mut i: usize = 0;
     while i < ns.len() {
@@ -70,12 +71,14 @@ fn put_numbers(out: &mut [u8], ns: &[u64])
     }
 }
 
-// The answer into the block; its first number, 0 or the refusal's, is also returned.
+// The answer into the block; its first number, 0 or the refusal's, is also returned. A block that is too short stays as it is.
 pub fn put(block: &mut [u8], a: Answer) -> u64
-    requires { ⌜ 200 ≤ length (now block) ⌝ }
-    ensures number { λ r. ⌜ r ≡ getD (numbersOf a) 0 0 ⌝ }
-    ensures block { λ r. ⌜ now (block .exit) ≡ bytesOf (numbersOf a) ++ drop 200 (now (block .entry)) ⌝ }
+    ensures number { λ r. ⌜ r ≡ numberOf (now (block .entry)) a ⌝ }
+    ensures block { λ r. ⌜ now (block .exit) ≡ blockAfter (now (block .entry)) a ⌝ }
 {
+    if block.len() < BLOCK {
+        return output::OUTPUT_FULL;
+    }
     let ns = numbers(a);
     put_numbers(block, &ns);
     ns[0]

@@ -10,6 +10,7 @@ use lib.Seq.{sets, sets-eq, length-sets, take-add, take-all}
 use Rattle.layouts.specs.Primitive.{numberBytes}
 use Rattle.layouts.proofs.Little.{length-number}
 use Rattle.output.specs.Numbers.{bytesOf}
+use Rattle.output.specs.Placed.{placed}
 use Rattle.output.proofs.Laws as Output
 use Rattle.fill.specs.Fill.{Put}
 
@@ -76,21 +77,22 @@ module _ (s : List ℕ) (start len : ℕ) (l : List ℕ) (i : ℕ) where
   put-whole m h q = put-fits l i (take len (drop start s)) m len (part-length s start len h) q
 
 -- an entry's sixteen bytes
-entry-bytes : (z e₁ e₂ : List ℕ) (start len : ℕ) → length z ≡ 16 → e₁ ≡ sets z 0 (numberBytes start) → e₂ ≡ sets e₁ 8 (numberBytes len)
+entry-bytes : (z e₁ e₂ : List ℕ) (start len : ℕ) → length z ≡ 16 → e₁ ≡ placed 0 (numberBytes start) z → e₂ ≡ placed 8 (numberBytes len) e₁
     → take 16 (drop 0 e₂) ≡ bytesOf (start ∷ len ∷ [])
 unfolding bytesOf
 entry-bytes z e₁ e₂ start len h p q =
     let l = length-number start in
     let m = length-number len in
-    let n : length e₂ ≡ 16 = ap length q ∙ length-sets e₁ 8 (numberBytes len) ∙ ap length p ∙ length-sets z 0 (numberBytes start) ∙ h in
+    let n : length e₂ ≡ 16 = ap length q ∙ Output.length-placed 8 (numberBytes len) e₁ ∙ ap length p ∙ Output.length-placed 0 (numberBytes start) z ∙ h in
     let k : length (numberBytes start ++ numberBytes len) ≡ 16 = length-append (numberBytes start) (numberBytes len) ∙ omega arith in
-    take-all 16 e₂ (omega arith) ∙ Output.then z e₁ e₂ 0 8 (numberBytes start) (numberBytes len) (omega arith) p q ∙
+    take-all 16 e₂ (omega arith) ∙ Output.then z e₁ e₂ 0 8 (numberBytes start) (numberBytes len) (omega arith) (omega arith) p q ∙
+    Output.placed-fits 0 (numberBytes start ++ numberBytes len) z (omega arith) ∙
     sets-eq (numberBytes start ++ numberBytes len) z 0 (omega arith) ∙
     ap (λ (x : List ℕ). (numberBytes start ++ numberBytes len) ++ x) (drop-of-length-le z {i = 0 + length (numberBytes start ++ numberBytes len)} (omega arith)) ∙
     append-assoc (numberBytes start) (numberBytes len) []
 
-pub put-entry : (l : List ℕ) (i : ℕ) (o : List ℕ) (k : ℕ) (z e₁ e₂ : List ℕ) (start len : ℕ) → length z ≡ 16 → e₁ ≡ sets z 0 (numberBytes start)
-    → e₂ ≡ sets e₁ 8 (numberBytes len) → Put l i (take 16 (drop 0 e₂)) o k → Put l i (bytesOf (start ∷ len ∷ [])) o k
+pub put-entry : (l : List ℕ) (i : ℕ) (o : List ℕ) (k : ℕ) (z e₁ e₂ : List ℕ) (start len : ℕ) → length z ≡ 16 → e₁ ≡ placed 0 (numberBytes start) z
+    → e₂ ≡ placed 8 (numberBytes len) e₁ → Put l i (take 16 (drop 0 e₂)) o k → Put l i (bytesOf (start ∷ len ∷ [])) o k
 put-entry l i o k z e₁ e₂ start len h p q t = subst (λ (vs : List ℕ). Put l i vs o k) (entry-bytes z e₁ e₂ start len h p q) t
 
 -- one after another

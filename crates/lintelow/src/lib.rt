@@ -1,5 +1,5 @@
 // The C boundary: numbers and byte slices. A call returns 0 or the refusal's number and writes its answer into the block; a block that is too short is
-// refused before all else.
+// refused before all else: `block::put` refuses it, and a call that lends other room looks before it reads.
 ghost use mathlib.Core.Path.{_≡_};
 ghost use mathlib.Core.List.{[]};
 ghost use Prim.Native.Nat.{_/_};
@@ -12,6 +12,7 @@ ghost use Rattle.layouts.specs.Calls.{argumentsTree, skippedTree, replyTree, sk
 ghost use Rattle.layouts.specs.Stderr.{stderrLoop, readStderrLoop, readStderrWithError, errorPieces};
 ghost use Rattle.layouts.specs.Handshake.{hear, heardEntries, handshake, daemonHandshake, parseHandshake, parseDaemonHandshake};
 ghost use Rattle.output.specs.Numbers.{bytesOf};
+ghost use Rattle.judge.specs.Judged.{answerAs};
 ghost use Rattle.protocol_bytes.specs.Bytes.{argumentsRead, replyRead, bytesAfter};
 ghost use Rattle.skips.specs.Skips.{stringSkipped, resultSkipped};
 ghost use Rattle.block.specs.Block.{guarded, numberOf, blockAfter};
@@ -30,8 +31,8 @@ pub extern "C" fn lintelow_read_op_args(
     payload: &mut [u8],
     block: &mut [u8],
 ) -> u64
-    ensures number { λ r. ⌜ r ≡ numberOf (now (block .entry)) (argumentsRead op (version major minor) (now (s .entry)) (now (entries .entry)) (now (payload .entry))) ⌝ }
-    ensures block { λ r. ⌜ now (block .exit) ≡ blockAfter (now (block .entry)) (argumentsRead op (version major minor) (now (s .entry)) (now (entries .entry)) (now (payload .entry))) ⌝ }
+    ensures number { λ r. ⌜ r ≡ numberOf (now (block .entry)) (answerAs (argumentsRead op (version major minor) (now (s .entry)) (now (entries .entry)) (now (payload .entry)))) ⌝ }
+    ensures block { λ r. ⌜ now (block .exit) ≡ blockAfter (now (block .entry)) (answerAs (argumentsRead op (version major minor) (now (s .entry)) (now (entries .entry)) (now (payload .entry)))) ⌝ }
     ensures entries { λ r. ⌜ now (entries .exit) ≡ bytesAfter (guarded (now (block .entry)) (argumentsRead op (version major minor) (now (s .entry)) (now (entries .entry)) (now (payload .entry)))) (run (argumentsTree op (version major minor)) (now (s .entry)) 0) (now (entries .entry)) ⌝ }
     ensures payload { λ r. ⌜ now (payload .exit) ≡ payloadAfter (guarded (now (block .entry)) (argumentsRead op (version major minor) (now (s .entry)) (now (entries .entry)) (now (payload .entry)))) (now (s .entry)) (run (argumentsTree op (version major minor)) (now (s .entry)) 0) (now (payload .entry)) ⌝ }
 {
@@ -52,8 +53,8 @@ pub extern "C" fn lintelow_read_daemon_result(
     payload: &mut [u8],
     block: &mut [u8],
 ) -> u64
-    ensures number { λ r. ⌜ r ≡ numberOf (now (block .entry)) (replyRead op (version major minor) (now (s .entry)) (now (entries .entry)) (now (payload .entry))) ⌝ }
-    ensures block { λ r. ⌜ now (block .exit) ≡ blockAfter (now (block .entry)) (replyRead op (version major minor) (now (s .entry)) (now (entries .entry)) (now (payload .entry))) ⌝ }
+    ensures number { λ r. ⌜ r ≡ numberOf (now (block .entry)) (answerAs (replyRead op (version major minor) (now (s .entry)) (now (entries .entry)) (now (payload .entry)))) ⌝ }
+    ensures block { λ r. ⌜ now (block .exit) ≡ blockAfter (now (block .entry)) (answerAs (replyRead op (version major minor) (now (s .entry)) (now (entries .entry)) (now (payload .entry)))) ⌝ }
     ensures entries { λ r. ⌜ now (entries .exit) ≡ bytesAfter (guarded (now (block .entry)) (replyRead op (version major minor) (now (s .entry)) (now (entries .entry)) (now (payload .entry)))) (run (replyTree op (version major minor)) (now (s .entry)) 0) (now (entries .entry)) ⌝ }
     ensures payload { λ r. ⌜ now (payload .exit) ≡ payloadAfter (guarded (now (block .entry)) (replyRead op (version major minor) (now (s .entry)) (now (entries .entry)) (now (payload .entry)))) (now (s .entry)) (run (replyTree op (version major minor)) (now (s .entry)) 0) (now (payload .entry)) ⌝ }
 {
@@ -73,12 +74,9 @@ pub extern "C" fn lintelow_skip_op_args(
     s: &[u8],
     block: &mut [u8],
 ) -> u64
-    ensures number { λ r. ⌜ r ≡ numberOf (now (block .entry)) (stringSkipped (skipOpArgs op (version major minor) (now (s .entry))) (entriesOf (run (skippedTree op (version major minor)) (now (s .entry)) 0))) ⌝ }
-    ensures block { λ r. ⌜ now (block .exit) ≡ blockAfter (now (block .entry)) (stringSkipped (skipOpArgs op (version major minor) (now (s .entry))) (entriesOf (run (skippedTree op (version major minor)) (now (s .entry)) 0))) ⌝ }
+    ensures number { λ r. ⌜ r ≡ numberOf (now (block .entry)) (answerAs (stringSkipped (skipOpArgs op (version major minor) (now (s .entry))) (entriesOf (run (skippedTree op (version major minor)) (now (s .entry)) 0)))) ⌝ }
+    ensures block { λ r. ⌜ now (block .exit) ≡ blockAfter (now (block .entry)) (answerAs (stringSkipped (skipOpArgs op (version major minor) (now (s .entry))) (entriesOf (run (skippedTree op (version major minor)) (now (s .entry)) 0)))) ⌝ }
 {
-    if block.len() < BLOCK {
-        return SHORT_BLOCK;
-    }
     let passed = skips::skip_op_args(op, major, minor, s);
     block::put(block, passed)
 }
@@ -91,24 +89,18 @@ pub extern "C" fn lintelow_skip_daemon_result(
     s: &[u8],
     block: &mut [u8],
 ) -> u64
-    ensures number { λ r. ⌜ r ≡ numberOf (now (block .entry)) (resultSkipped (skipDaemonResult op (version major minor) (now (s .entry)))) ⌝ }
-    ensures block { λ r. ⌜ now (block .exit) ≡ blockAfter (now (block .entry)) (resultSkipped (skipDaemonResult op (version major minor) (now (s .entry)))) ⌝ }
+    ensures number { λ r. ⌜ r ≡ numberOf (now (block .entry)) (answerAs (resultSkipped (skipDaemonResult op (version major minor) (now (s .entry))))) ⌝ }
+    ensures block { λ r. ⌜ now (block .exit) ≡ blockAfter (now (block .entry)) (answerAs (resultSkipped (skipDaemonResult op (version major minor) (now (s .entry))))) ⌝ }
 {
-    if block.len() < BLOCK {
-        return SHORT_BLOCK;
-    }
     let past = skips::skip_daemon_result(op, major, minor, s);
     block::put(block, past)
 }
 
 #[no_mangle]
 pub extern "C" fn lintelow_read_stderr_loop(s: &[u8], block: &mut [u8]) -> u64
-    ensures number { λ r. ⌜ r ≡ numberOf (now (block .entry)) (readStderrLoop (now (s .entry))) ⌝ }
-    ensures block { λ r. ⌜ now (block .exit) ≡ blockAfter (now (block .entry)) (readStderrLoop (now (s .entry))) ⌝ }
+    ensures number { λ r. ⌜ r ≡ numberOf (now (block .entry)) (answerAs (readStderrLoop (now (s .entry)))) ⌝ }
+    ensures block { λ r. ⌜ now (block .exit) ≡ blockAfter (now (block .entry)) (answerAs (readStderrLoop (now (s .entry)))) ⌝ }
 {
-    if block.len() < BLOCK {
-        return SHORT_BLOCK;
-    }
     let stopped = stderr::read_stderr_loop(s);
     block::put(block, stopped)
 }
@@ -119,8 +111,8 @@ pub extern "C" fn lintelow_read_stderr_with_error(
     entries: &mut [u8],
     block: &mut [u8],
 ) -> u64
-    ensures number { λ r. ⌜ r ≡ numberOf (now (block .entry)) (readStderrWithError (now (s .entry)) (length (now (entries .entry)) / 16)) ⌝ }
-    ensures block { λ r. ⌜ now (block .exit) ≡ blockAfter (now (block .entry)) (readStderrWithError (now (s .entry)) (length (now (entries .entry)) / 16)) ⌝ }
+    ensures number { λ r. ⌜ r ≡ numberOf (now (block .entry)) (answerAs (readStderrWithError (now (s .entry)) (length (now (entries .entry)) / 16))) ⌝ }
+    ensures block { λ r. ⌜ now (block .exit) ≡ blockAfter (now (block .entry)) (answerAs (readStderrWithError (now (s .entry)) (length (now (entries .entry)) / 16))) ⌝ }
     ensures entries { λ r. ⌜ now (entries .exit) ≡ bytesAfter (guarded (now (block .entry)) (readStderrWithError (now (s .entry)) (length (now (entries .entry)) / 16))) (errorPieces (now (s .entry)) (stderrLoop (now (s .entry)))) (now (entries .entry)) ⌝ }
 {
     if block.len() < BLOCK {
@@ -137,8 +129,8 @@ pub extern "C" fn lintelow_parse_handshake(
     entries: &mut [u8],
     block: &mut [u8],
 ) -> u64
-    ensures number { λ r. ⌜ r ≡ numberOf (now (block .entry)) (parseHandshake (now (client .entry)) (now (daemon .entry)) (length (now (entries .entry)) / 16)) ⌝ }
-    ensures block { λ r. ⌜ now (block .exit) ≡ blockAfter (now (block .entry)) (parseHandshake (now (client .entry)) (now (daemon .entry)) (length (now (entries .entry)) / 16)) ⌝ }
+    ensures number { λ r. ⌜ r ≡ numberOf (now (block .entry)) (answerAs (parseHandshake (now (client .entry)) (now (daemon .entry)) (length (now (entries .entry)) / 16))) ⌝ }
+    ensures block { λ r. ⌜ now (block .exit) ≡ blockAfter (now (block .entry)) (answerAs (parseHandshake (now (client .entry)) (now (daemon .entry)) (length (now (entries .entry)) / 16))) ⌝ }
     ensures entries { λ r. ⌜ now (entries .exit) ≡ lentAfter (guarded (now (block .entry)) (parseHandshake (now (client .entry)) (now (daemon .entry)) (length (now (entries .entry)) / 16))) (bytesOf (heardEntries (hear handshake (now (client .entry)) (now (daemon .entry)) 0 0 blank))) (now (entries .entry)) ⌝ }
 {
     if block.len() < BLOCK {
@@ -156,8 +148,8 @@ pub extern "C" fn lintelow_parse_daemon_handshake(
     entries: &mut [u8],
     block: &mut [u8],
 ) -> u64
-    ensures number { λ r. ⌜ r ≡ numberOf (now (block .entry)) (parseDaemonHandshake (version major minor) (now (daemon .entry)) (length (now (entries .entry)) / 16)) ⌝ }
-    ensures block { λ r. ⌜ now (block .exit) ≡ blockAfter (now (block .entry)) (parseDaemonHandshake (version major minor) (now (daemon .entry)) (length (now (entries .entry)) / 16)) ⌝ }
+    ensures number { λ r. ⌜ r ≡ numberOf (now (block .entry)) (answerAs (parseDaemonHandshake (version major minor) (now (daemon .entry)) (length (now (entries .entry)) / 16))) ⌝ }
+    ensures block { λ r. ⌜ now (block .exit) ≡ blockAfter (now (block .entry)) (answerAs (parseDaemonHandshake (version major minor) (now (daemon .entry)) (length (now (entries .entry)) / 16))) ⌝ }
     ensures entries { λ r. ⌜ now (entries .exit) ≡ lentAfter (guarded (now (block .entry)) (parseDaemonHandshake (version major minor) (now (daemon .entry)) (length (now (entries .entry)) / 16))) (bytesOf (heardEntries (hear (daemonHandshake (version major minor)) [] (now (daemon .entry)) 0 0 blank))) (now (entries .entry)) ⌝ }
 {
     if block.len() < BLOCK {

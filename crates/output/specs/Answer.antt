@@ -1,7 +1,7 @@
 -- What a writer's answer means, by the definitions of `layouts`.
-use Prim.Native.Nat.{ℕ, _+_}
+use Prim.Native.Nat.{ℕ}
 use mathlib.Core.List.{List}
-use Rattle.layouts.specs.Primitive.{padOf, Result, ok, refused}
+use Rattle.layouts.specs.Primitive.{Result, ok, refused}
 use Rattle.layouts.specs.Judge.{lentAfter}
 use Rattle.layouts.specs.Writers.{writing}
 use Rattle.output.specs.declared.Written.{Written}
@@ -14,7 +14,3 @@ meaning (Refused which place) = refused which place 0
 -- the lent bytes after this output was to be written
 abbrev pub afterWriting : (output lent : List ℕ) → List ℕ
 afterWriting output lent = lentAfter (writing output lent) output lent
-
--- of a string's output, by the length of its contents
-abbrev pub stringLength : ℕ → ℕ
-stringLength n = 8 + n + padOf n

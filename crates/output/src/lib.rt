@@ -1,12 +1,12 @@
-// Parts of an output, put at a place that has room for them, for the writers; and what every writer answers.
+// Parts of an output, put at a place, for the writers; and what every writer answers. A part that does not fit at its place is left out as a whole.
 ghost use mathlib.Core.Path.{_≡_};
 ghost use mathlib.Core.List.{_++_};
-ghost use Prim.Native.Nat.{_+_, _≤_, _<_};
+ghost use Prim.Native.Nat.{_+_};
 ghost use lib.ListN.{length, replicate};
-ghost use lib.Seq.{sets};
+ghost use lib.Dec.{leb};
 ghost use Rattle.layouts.specs.Primitive.{numberBytes, padOf};
 ghost use Rattle.layouts.specs.Writers.{stringBytes};
-ghost use Rattle.output.specs.Answer.{stringLength};
+ghost use Rattle.output.specs.Placed.{placed};
 
 // The refusal of an output that does not fit.
 pub const OUTPUT_FULL: u64 = 10;
@@ -17,23 +17,36 @@ pub enum Written {
     Refused { which: u64, place: usize },
 }
 
-pub fn put(out: &mut [u8], at: usize, c: &[u8])
-    requires { ⌜ at + length (now c) ≤ length (now out) ⌝ }
-    ensures { λ r. ⌜ now (out .exit) ≡ sets (now (out .entry)) at (now (c .entry)) ⌝ }
+// Do n bytes fit at a place?
+fn has_room(size: usize, at: usize, n: usize) -> bool
+    ensures { λ r. ⌜ r ≡ leb (at + n) size ⌝ }
 {
-    bytes::copy(c, &mut out[at..]);
+    if at <= size {
+        return n <= size - at;
+    }
+    false
+}
+
+pub fn put(out: &mut [u8], at: usize, c: &[u8])
+    ensures { λ r. ⌜ now (out .exit) ≡ placed at (now (c .entry)) (now (out .entry)) ⌝ }
+{
+    if has_room(out.len(), at, c.len()) {
+        bytes::copy(c, &mut out[at..]);
+        return;
+    }
 }
 
 pub fn put_number(out: &mut [u8], at: usize, x: u64)
-    requires { ⌜ at + 8 ≤ length (now out) ⌝ }
-    ensures { λ r. ⌜ now (out .exit) ≡ sets (now (out .entry)) at (numberBytes x) ⌝ }
+    ensures { λ r. ⌜ now (out .exit) ≡ placed at (numberBytes x) (now (out .entry)) ⌝ }
 {
-    number::write(&mut out[at..], x);
+    if has_room(out.len(), at, 8) {
+        number::write(&mut out[at..], x);
+        return;
+    }
 }
 
 fn put_padding(out: &mut [u8], at: usize, n: usize)
-    requires { ⌜ at + padOf n ≤ length (now out) ⌝ }
-    ensures { λ r. ⌜ now (out .exit) ≡ sets (now (out .entry)) at (replicate (padOf n) 0) ⌝ }
+    ensures { λ r. ⌜ now (out .exit) ≡ placed at (replicate (padOf n) 0) (now (out .entry)) ⌝ }
 {
     let zeros = [0u8; 8];
     let k = pieces::padding(n);
@@ -42,28 +55,31 @@ fn put_padding(out: &mut [u8], at: usize, n: usize)
 
 // The length of c, then c.
 pub fn put_counted(out: &mut [u8], at: usize, c: &[u8])
-    requires { ⌜ at + 8 + length (now c) ≤ length (now out) ⌝ }
-    ensures { λ r. ⌜ now (out .exit) ≡ sets (now (out .entry)) at (numberBytes (length (now (c .entry))) ++ now (c .entry)) ⌝ }
+    ensures { λ r. ⌜ now (out .exit) ≡ placed at (numberBytes (length (now (c .entry))) ++ now (c .entry)) (now (out .entry)) ⌝ }
 {
-    let start = at + 8;
-    put_number(out, at, c.len() as u64);
-    put(out, start, c);
+    let n = c.len();
+    if has_room(out.len(), at, 8 + n) {
+        put_number(out, at, n as u64);
+        put(out, at + 8, c);
+        return;
+    }
+}
+
+// How many bytes c takes as a string.
+pub fn string_length(c: &[u8]) -> usize
+    ensures { λ r. ⌜ r ≡ length (stringBytes (now (c .entry))) ⌝ }
+{
+    let n = c.len();
+    8 + n + pieces::padding(n)
 }
 
 pub fn put_string(out: &mut [u8], at: usize, c: &[u8])
-    requires { ⌜ at + length (stringBytes (now c)) ≤ length (now out) ⌝ }
-    ensures { λ r. ⌜ now (out .exit) ≡ sets (now (out .entry)) at (stringBytes (now (c .entry))) ⌝ }
+    ensures { λ r. ⌜ now (out .exit) ≡ placed at (stringBytes (now (c .entry))) (now (out .entry)) ⌝ }
 {
-    let n = c.len();
-    let end = at + 8 + n;
-    put_counted(out, at, c);
-    put_padding(out, end, n);
-}
-
-// How many bytes a string of n takes.
-pub fn string_length(n: usize) -> usize
-    requires { ⌜ n < 9223372036854775808 ⌝ }
-    ensures { λ r. ⌜ r ≡ stringLength n ⌝ }
-{
-    8 + n + pieces::padding(n)
+    if has_room(out.len(), at, string_length(c)) {
+        let n = c.len();
+        put_counted(out, at, c);
+        put_padding(out, at + 8 + n, n);
+        return;
+    }
 }

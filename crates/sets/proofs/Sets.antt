@@ -5,7 +5,6 @@ use mathlib.Core.List.{List, [], _∷_, _++_}
 use mathlib.Core.Bool.{Bool, true, false}
 use lib.Dec.{leb}
 use lib.ListN.{length, length-append}
-use lib.Seq.{sets, length-sets}
 use native.Mathlib.Nat.{sub-zero}
 use native.Mathlib.Omega.{arith}
 use native.Mathlib.Decide.{decLe, decLt}
@@ -19,13 +18,13 @@ use Rattle.layouts.specs.Writers.{slotsOf, viewOf, partOf, stringBytes, strings
 use Rattle.views.specs.Fault.{faultOf}
 use Rattle.layouts.proofs.Little.{length-number}
 use Rattle.sets.specs.Sets.{fitting, entryTaken, grown, setJudged, partsFrom}
-use Rattle.output.specs.Answer.{stringLength}
-use Rattle.output.proofs.Laws.{Filling, filling-start, filling-turn, filling-room, length-string, done, then}
+use Rattle.output.specs.Placed.{placed}
+use Rattle.output.proofs.Laws.{Filling, filling-start, filling-turn, filling-room, filling-end, length-placed, done, then}
 
 -- an entry, by its fault and by its text
 module _ (bytes es : List ℕ) (i : ℕ) where
   abbrev takenOf : Result (List ℕ) → Result ℕ
-  takenOf v = onward (onward v (λ c. pick (isText c) (ok c) (refused badText i 0))) (λ c. ok (stringLength (length c)))
+  takenOf v = onward (onward v (λ c. pick (isText c) (ok c) (refused badText i 0))) (λ c. ok (length (stringBytes c)))
 
   pub entry-refused : (which place : ℕ) → refused which place 0 ≡ faultOf (viewOf bytes es i) → refused which place 0 ≡ entryTaken bytes es i
   unfolding textAt
@@ -36,10 +35,10 @@ module _ (bytes es : List ℕ) (i : ℕ) where
       go (refused w p s) f = cc
 
   module _ (e : ok tt ≡ faultOf (viewOf bytes es i)) (c : List ℕ) (g : c ≡ partOf (viewOf bytes es i)) (x : Bool) (j : Judged x c) where
-    entry-by : (b : Bool) → x ≡ b → takenOf (viewOf bytes es i) ≡ onward (pick b (ok c) (refused badText i 0)) (λ d. ok (stringLength (length d)))
+    entry-by : (b : Bool) → x ≡ b → takenOf (viewOf bytes es i) ≡ onward (pick b (ok c) (refused badText i 0)) (λ d. ok (length (stringBytes d)))
     entry-by b f = go (viewOf bytes es i) e g
       where
-        go : (v : Result (List ℕ)) → ok tt ≡ faultOf v → c ≡ partOf v → takenOf v ≡ onward (pick b (ok c) (refused badText i 0)) (λ d. ok (stringLength (length d)))
+        go : (v : Result (List ℕ)) → ok tt ≡ faultOf v → c ≡ partOf v → takenOf v ≡ onward (pick b (ok c) (refused badText i 0)) (λ d. ok (length (stringBytes d)))
         go (ok p) e g = let t : isText c ≡ b = sym (judged-is x c j) ∙ f in rw (← g, t)
         go (refused w p s) e g = let z : _≡_ {A = ℕ} 0 1 = cc in absurd (omega arith)
 
@@ -47,13 +46,13 @@ module _ (bytes es : List ℕ) (i : ℕ) where
     unfolding textAt
     entry-bad w n f = rw n (sym (entry-by false f))
 
-    pub entry-text : x ≡ true → (n : ℕ) → n ≡ stringLength (length c) → ok n ≡ entryTaken bytes es i
+    pub entry-text : x ≡ true → (n : ℕ) → n ≡ length (stringBytes c) → ok n ≡ entryTaken bytes es i
     unfolding textAt
     entry-text f n l = ap ok l ∙ sym (entry-by true f)
 
-pub entry-put : (c p o o' : List ℕ) (at n : ℕ) → c ≡ p → n ≡ stringLength (length c) → o' ≡ sets o at (stringBytes c)
-    → (at + n ≡ at + length (stringBytes p)) × (o' ≡ sets o at (stringBytes p))
-entry-put c p o o' at n e f g = (ap (λ (k : ℕ). at + k) (f ∙ sym (length-string c) ∙ ap (λ (d : List ℕ). length (stringBytes d)) e), g ∙ ap (λ (d : List ℕ). sets o at (stringBytes d)) e)
+pub entry-put : (c p o o' : List ℕ) (at n : ℕ) → c ≡ p → n ≡ length (stringBytes c) → o' ≡ placed at (stringBytes c) o
+    → (at + n ≡ at + length (stringBytes p)) × (o' ≡ placed at (stringBytes p) o)
+entry-put c p o o' at n e f g = (ap (λ (k : ℕ). at + k) (f ∙ ap (λ (d : List ℕ). length (stringBytes d)) e), g ∙ ap (λ (d : List ℕ). placed at (stringBytes d) o) e)
 
 -- ---- judging: what is left of the loop
 unfoldable pub setFrom : (bytes es : List ℕ) → (room n i total : ℕ) → Result ℕ
@@ -75,13 +74,13 @@ module _ (bytes es : List ℕ) (room : ℕ) where
   set-texts (suc n) i t = go (textAt bytes es i) (textsFrom bytes es n (i + 1)) (λ k. setFrom bytes es room n (i + 1) k) (λ k. set-texts n (i + 1) k)
     where
       go : (r : Result (List ℕ)) (q : Result (List (List ℕ))) (f : ℕ → Result ℕ) → ((k : ℕ) → f k ≡ onward q (λ cs. fitting (k + length (stringsBytes cs)) room))
-          → onward (onward r (λ c. ok (stringLength (length c)))) (λ k. f (grown room t k))
+          → onward (onward r (λ c. ok (length (stringBytes c)))) (λ k. f (grown room t k))
           ≡ onward (onward r (λ c. onward q (λ cs. ok (c ∷ cs)))) (λ cs. fitting (t + length (stringsBytes cs)) room)
       go (refused w p s) q f g = refl
-      go (ok c) (refused w p s) f g = g (grown room t (stringLength (length c)))
+      go (ok c) (refused w p s) f g = g (grown room t (length (stringBytes c)))
       go (ok c) (ok cs) f g =
-          g (grown room t (stringLength (length c))) ∙ grown-fits room t (stringLength (length c)) (length (stringsBytes cs))
-          ∙ ap (λ (k : ℕ). fitting (t + k) room) (sym (length-append (stringBytes c) (stringsBytes cs) ∙ ap (λ (k : ℕ). k + length (stringsBytes cs)) (length-string c)))
+          g (grown room t (length (stringBytes c))) ∙ grown-fits room t (length (stringBytes c)) (length (stringsBytes cs))
+          ∙ ap (λ (k : ℕ). fitting (t + k) room) (sym (length-append (stringBytes c) (stringsBytes cs)))
 
 pub length-set-bytes : (cs : List (List ℕ)) → length (setBytes cs) ≡ 8 + length (stringsBytes cs)
 unfolding setBytes
@@ -208,29 +207,33 @@ module _ (bytes es : List ℕ) (count i : ℕ) (h : i < count) where
 
   module _ (o₀ es₀ o : List ℕ) (at : ℕ) (f : Filling o₀ 8 es₀ o at (stringsBytes (partsFrom bytes es (count - i) i))) where
     pub set-room : at + length (stringBytes (partOf (viewOf bytes es i))) ≤ length o
-    set-room = filling-room o₀ 8 es₀ o at _ f (stringBytes (partOf (viewOf bytes es i))) (stringsBytes (partsFrom bytes es (count - (i + 1)) (i + 1))) parts-more
+    set-room =
+        let r = filling-room o₀ 8 es₀ o at _ f (stringBytes (partOf (viewOf bytes es i))) (stringsBytes (partsFrom bytes es (count - (i + 1)) (i + 1))) parts-more in
+        omega arith
 
-    pub set-turn : (o' : List ℕ) (n : ℕ) → n ≡ at + length (stringBytes (partOf (viewOf bytes es i))) → o' ≡ sets o at (stringBytes (partOf (viewOf bytes es i)))
+    pub set-turn : (o' : List ℕ) (n : ℕ) → n ≡ at + length (stringBytes (partOf (viewOf bytes es i))) → o' ≡ placed at (stringBytes (partOf (viewOf bytes es i))) o
         → Filling o₀ 8 es₀ o' n (stringsBytes (partsFrom bytes es (count - (i + 1)) (i + 1)))
     set-turn o' n e g = filling-turn o₀ 8 es₀ o at _ f (stringBytes (partOf (viewOf bytes es i))) (stringsBytes (partsFrom bytes es (count - (i + 1)) (i + 1))) parts-more o' n e g
 
-module _ (bytes es : List ℕ) (count : ℕ) where
-  pub set-start : (o o' : List ℕ) → length (setBytes (partsFrom bytes es count 0)) ≤ length o → o' ≡ sets o 0 (numberBytes count)
-      → Filling o' 8 (stringsBytes (partsFrom bytes es count 0)) o' 8 (stringsBytes (partsFrom bytes es (count - 0) 0))
-  set-start o o' h e =
-      let l = length-set-bytes (partsFrom bytes es count 0) in
-      let m : length o' ≡ length o = ap length e ∙ length-sets o 0 (numberBytes count) in
-      rw sub-zero (filling-start o' 8 (stringsBytes (partsFrom bytes es count 0)) (omega arith))
+module _ (bytes es : List ℕ) (count : ℕ) (o o₀ : List ℕ) (h : length (setBytes (partsFrom bytes es count 0)) ≤ length o) (e : o₀ ≡ placed 0 (numberBytes count) o) where
+  strings-room : 8 + length (stringsBytes (partsFrom bytes es count 0)) ≤ length o
+  strings-room = omega (arith, length-set-bytes (partsFrom bytes es count 0))
 
-  pub set-end : (o o₀ o' : List ℕ) (at i : ℕ) → count ≤ i → o₀ ≡ sets o 0 (numberBytes count)
-      → Filling o₀ 8 (stringsBytes (partsFrom bytes es count 0)) o' at (stringsBytes (partsFrom bytes es (count - i) i)) → o' ≡ sets o 0 (setBytes (partsFrom bytes es count 0))
+  pub set-start : Filling o₀ 8 (stringsBytes (partsFrom bytes es count 0)) o₀ 8 (stringsBytes (partsFrom bytes es (count - 0) 0))
+  set-start =
+      let r = strings-room in
+      let m : length o₀ ≡ length o = ap length e ∙ length-placed 0 (numberBytes count) o in
+      rw sub-zero (filling-start o₀ 8 (stringsBytes (partsFrom bytes es count 0)) (omega arith))
+
+  pub set-end : (o' : List ℕ) (at i : ℕ) → count ≤ i
+      → Filling o₀ 8 (stringsBytes (partsFrom bytes es count 0)) o' at (stringsBytes (partsFrom bytes es (count - i) i)) → o' ≡ placed 0 (setBytes (partsFrom bytes es count 0)) o
   unfolding partsFrom stringsBytes setBytes
-  set-end o o₀ o' at i h e f =
+  set-end o' at i g f =
       let s : count - i ≡ 0 = omega arith in
       let l = length-number count in
-      let w = rw s at (f .same) in
-      then o o₀ o' 0 8 (numberBytes count) (stringsBytes (partsFrom bytes es count 0)) (omega arith) e w
-      ∙ ap (λ (k : ℕ). sets o 0 (numberBytes k ++ stringsBytes (partsFrom bytes es count 0))) (sym (length-parts bytes es count 0))
+      let r = strings-room in
+      then o o₀ o' 0 8 (numberBytes count) (stringsBytes (partsFrom bytes es count 0)) (omega arith) (omega arith) e (filling-end o₀ 8 _ o' at _ f (rw s))
+      ∙ ap (λ (k : ℕ). placed 0 (numberBytes k ++ stringsBytes (partsFrom bytes es count 0)) o) (sym (length-parts bytes es count 0))
 
 -- ---- the answer
 module _ (bytes es : List ℕ) (count : ℕ) (lent : List ℕ) (r : Result ℕ) (e : r ≡ setJudged (length lent) (textsOf bytes es count)) where
@@ -244,7 +247,7 @@ module _ (bytes es : List ℕ) (count : ℕ) (lent : List ℕ) (r : Result ℕ) 
       let w = sym f ∙ judged-answer in
       (w, ap (λ (x : Result ℕ). lentAfter x (outputOf (textsOf bytes es count)) lent) w)
 
-  pub set-done : (n : ℕ) (lent' : List ℕ) → r ≡ ok n → SetFits bytes es count (length lent) n → lent' ≡ sets lent 0 (setBytes (partsFrom bytes es count 0))
+  pub set-done : (n : ℕ) (lent' : List ℕ) → r ≡ ok n → SetFits bytes es count (length lent) n → lent' ≡ placed 0 (setBytes (partsFrom bytes es count 0)) lent
       → (ok n ≡ writeStringSet bytes es count lent) × (lent' ≡ lentAfter (writeStringSet bytes es count lent) (outputOf (textsOf bytes es count)) lent)
   set-done n lent' f s g =
       let w = sym f ∙ judged-answer in

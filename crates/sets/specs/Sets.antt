@@ -4,8 +4,7 @@ use mathlib.Core.List.{List, [], _∷_}
 use lib.ListN.{length}
 use lib.Dec.{ltb, leb}
 use Rattle.layouts.specs.Primitive.{pick, outputFull, Result, ok, refused, onward}
-use Rattle.layouts.specs.Writers.{partOf, viewOf, textAt, setBytes}
-use Rattle.output.specs.Answer.{stringLength}
+use Rattle.layouts.specs.Writers.{partOf, viewOf, textAt, stringBytes, setBytes}
 
 -- n bytes are to go where there is room for so many
 abbrev pub fitting : (n room : ℕ) → Result ℕ
@@ -13,7 +12,7 @@ fitting n room = pick (leb n room) (ok n) (refused outputFull 0 0)
 
 -- how many bytes entry i takes, where it is text
 abbrev pub entryTaken : (bytes entries : List ℕ) → (i : ℕ) → Result ℕ
-entryTaken bytes es i = onward (textAt bytes es i) (λ c. ok (stringLength (length c)))
+entryTaken bytes es i = onward (textAt bytes es i) (λ c. ok (length (stringBytes c)))
 
 -- the sum of a total and n, or a number above the room where it passes the room
 abbrev pub grown : (room total n : ℕ) → ℕ

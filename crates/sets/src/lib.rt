@@ -2,10 +2,10 @@
 ghost use mathlib.Core.Path.{_≡_};
 ghost use Prim.Native.Nat.{_+_, _≤_, _<_};
 ghost use lib.ListN.{length};
-ghost use lib.Seq.{sets};
 ghost use Rattle.layouts.specs.Judge.{lentAfter};
 ghost use Rattle.layouts.specs.Writers.{viewOf, partOf, stringBytes, setBytes, textsOf, writeStringSet, outputOf};
 ghost use Rattle.output.specs.Answer.{meaning};
+ghost use Rattle.output.specs.Placed.{placed};
 ghost use Rattle.sets.specs.Sets.{fitting, entryTaken, grown, setJudged, partsFrom};
 use output::Written;
 use views::Fault;
@@ -19,7 +19,7 @@ fn judge_entry(bytes: &[u8], entries: &[u64], i: usize) -> Written
         Fault::None => {
             let c = views::entry(bytes, entries, i);
             if text::is_text(c) {
-                return Written::Length(output::string_length(c.len()));
+                return Written::Length(output::string_length(c));
             }
             Written::Refused {
                 which: pieces::BAD_TEXT,
@@ -90,16 +90,16 @@ fn judge_set(bytes: &[u8], entries: &[u64], count: usize, room: usize) -> Writte
 fn put_entry(out: &mut [u8], at: usize, bytes: &[u8], entries: &[u64], i: usize) -> usize
     requires { ⌜ at + length (stringBytes (partOf (viewOf (now bytes) (now entries) i))) ≤ length (now out) ⌝ }
     ensures next { λ r. ⌜ r ≡ at + length (stringBytes (partOf (viewOf (now (bytes .entry)) (now (entries .entry)) i))) ⌝ }
-    ensures out { λ r. ⌜ now (out .exit) ≡ sets (now (out .entry)) at (stringBytes (partOf (viewOf (now (bytes .entry)) (now (entries .entry)) i))) ⌝ }
+    ensures out { λ r. ⌜ now (out .exit) ≡ placed at (stringBytes (partOf (viewOf (now (bytes .entry)) (now (entries .entry)) i))) (now (out .entry)) ⌝ }
 {
     let c = views::entry(bytes, entries, i);
     output::put_string(out, at, c);
-    at + output::string_length(c.len())
+    at + output::string_length(c)
 }
 
 fn put_set(out: &mut [u8], bytes: &[u8], entries: &[u64], count: usize)
     requires { ⌜ length (setBytes (partsFrom (now bytes) (now entries) count 0)) ≤ length (now out) ⌝ }
-    ensures { λ r. ⌜ now (out .exit) ≡ sets (now (out .entry)) 0 (setBytes (partsFrom (now (bytes .entry)) (now (entries .entry)) count 0)) ⌝ }
+    ensures { λ r. ⌜ now (out .exit) ≡ placed 0 (setBytes (partsFrom (now (bytes .entry)) (now (entries .entry)) count 0)) (now (out .entry)) ⌝ }
 {
     output::put_number(out, 0, count as u64);
     let mut at = 8;

@@ -3,13 +3,14 @@ use Prim.Native.Nat.{ℕ, zero, suc, _+_, _-_, _≤_, _<_, min}
 use mathlib.Core.Path.{_≡_, refl, sym, ap, _∙_}
 use mathlib.Core.List.{List, [], _∷_, _++_, append-assoc}
 use lib.ListN.{length, take, drop, length-append, length-take, length-drop, drop-of-length-le}
-use lib.Seq.{sets, length-take-le, take-all, drop-drop}
+use lib.Seq.{length-take-le, take-all, drop-drop}
 use native.Mathlib.Omega.{arith}
 use native.Mathlib.Decide.{decLe}
 use Rattle.layouts.specs.Primitive.{numberBytes}
 use Rattle.layouts.specs.Writers.{chunksBytes, framedBytes}
 use Rattle.layouts.proofs.Little.{length-number}
 use Rattle.writers.specs.Framed.{framedLength}
+use Rattle.output.specs.Placed.{placed}
 use Rattle.output.proofs.Laws.{Filling, filling-turn, filling-room}
 
 -- any bound that is large enough will do
@@ -88,12 +89,12 @@ module _ (c : List ℕ) (i n : ℕ) (h : i < length c) (e : n ≡ min 32768 (len
       let d = length-drop i c in
       simp (length-append, length-number, length-take) (omega arith)
 
-pub chunk-put : (o o' c : List ℕ) (at i n : ℕ) → i + n ≤ length c → o' ≡ sets o at (numberBytes (length (take n (drop i c))) ++ take n (drop i c))
-    → o' ≡ sets o at (numberBytes n ++ take n (drop i c))
+pub chunk-put : (o o' c : List ℕ) (at i n : ℕ) → i + n ≤ length c → o' ≡ placed at (numberBytes (length (take n (drop i c))) ++ take n (drop i c)) o
+    → o' ≡ placed at (numberBytes n ++ take n (drop i c)) o
 chunk-put o o' c at i n h e =
     let d = length-drop i c in
     let l : length (take n (drop i c)) ≡ n = length-take-le n (drop i c) (omega arith) in
-    e ∙ ap (λ (k : ℕ). sets o at (numberBytes k ++ take n (drop i c))) l
+    e ∙ ap (λ (k : ℕ). placed at (numberBytes k ++ take n (drop i c)) o) l
 
 module _ (c : List ℕ) (i n : ℕ) (h : i < length c) (e : n ≡ min 32768 (length c - i)) (o₀ o : List ℕ) (at : ℕ) (f : Filling o₀ 0 (framedBytes c) o at (framedBytes (drop i c))) where
   pub framed-room : at + 8 + n ≤ length o
@@ -102,18 +103,15 @@ module _ (c : List ℕ) (i n : ℕ) (h : i < length c) (e : n ≡ min 32768 (len
       let r = filling-room o₀ 0 (framedBytes c) o at (framedBytes (drop i c)) f (numberBytes n ++ take n (drop i c)) (framedBytes (drop (i + n) c)) (framed-chunk c i n h e) in
       omega arith
 
-  pub framed-turn : (o' : List ℕ) (m : ℕ) → m ≡ n → o' ≡ sets o at (numberBytes m ++ take m (drop i c)) → Filling o₀ 0 (framedBytes c) o' (at + 8 + n) (framedBytes (drop (i + n) c))
+  pub framed-turn : (o' : List ℕ) (m : ℕ) → m ≡ n → o' ≡ placed at (numberBytes m ++ take m (drop i c)) o → Filling o₀ 0 (framedBytes c) o' (at + 8 + n) (framedBytes (drop (i + n) c))
   framed-turn o' m q g =
       let l = chunk-length c i n h e in
       filling-turn o₀ 0 (framedBytes c) o at (framedBytes (drop i c)) f (numberBytes n ++ take n (drop i c)) (framedBytes (drop (i + n) c)) (framed-chunk c i n h e)
-      o' (at + 8 + n) (omega arith) (g ∙ ap (λ (k : ℕ). sets o at (numberBytes k ++ take k (drop i c))) q)
+      o' (at + 8 + n) (omega arith) (g ∙ ap (λ (k : ℕ). placed at (numberBytes k ++ take k (drop i c)) o) q)
 
 module _ (c : List ℕ) (i : ℕ) (h : length c ≤ i) (o₀ o : List ℕ) (at : ℕ) (f : Filling o₀ 0 (framedBytes c) o at (framedBytes (drop i c))) where
   last : framedBytes (drop i c) ≡ numberBytes 0
   last = framed-none (drop i c) (simp length-drop (omega arith))
 
-  pub framed-last : at + 8 ≤ length o
-  framed-last = let r = f .room in let l : length (framedBytes (drop i c)) ≡ 8 = ap length last ∙ length-number 0 in omega arith
-
-  pub framed-end : (o' : List ℕ) → o' ≡ sets o at (numberBytes 0) → o' ≡ sets o₀ 0 (framedBytes c)
-  framed-end o' g = g ∙ ap (sets o at) (sym last) ∙ f .same
+  pub framed-end : (o' : List ℕ) → o' ≡ placed at (numberBytes 0) o → o' ≡ placed 0 (framedBytes c) o₀
+  framed-end o' g = g ∙ ap (λ (x : List ℕ). placed at x o) (sym last) ∙ f .same

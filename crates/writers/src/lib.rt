@@ -3,11 +3,11 @@ ghost use mathlib.Core.Path.{_≡_};
 ghost use mathlib.Core.List.{_++_};
 ghost use Prim.Native.Nat.{_+_, _-_, _≤_, _<_, min};
 ghost use lib.ListN.{length, take, drop};
-ghost use lib.Seq.{sets};
 ghost use Rattle.layouts.specs.Primitive.{littleEnd, numberBytes};
 ghost use Rattle.layouts.specs.Judge.{lentAfter};
 ghost use Rattle.layouts.specs.Writers.{writing, stringBytes, framedBytes, writeString};
 ghost use Rattle.output.specs.Answer.{meaning, afterWriting};
+ghost use Rattle.output.specs.Placed.{placed};
 ghost use Rattle.writers.specs.Framed.{framedLength};
 pub use output::Written;
 pub use sets::write_string_set;
@@ -45,7 +45,7 @@ pub fn write_bytes(out: &mut [u8], c: &[u8]) -> Written
     ensures answer { λ r. ⌜ meaning r ≡ writing (stringBytes (now (c .entry))) (now (out .entry)) ⌝ }
     ensures lent { λ r. ⌜ now (out .exit) ≡ afterWriting (stringBytes (now (c .entry))) (now (out .entry)) ⌝ }
 {
-    let n = output::string_length(c.len());
+    let n = output::string_length(c);
     if out.len() < n {
         return Written::Refused {
             which: output::OUTPUT_FULL,
@@ -88,15 +88,15 @@ fn least(a: usize, b: usize) -> usize
 }
 
 fn put_chunk(out: &mut [u8], at: usize, c: &[u8], from: usize, to: usize)
-    requires { ⌜ (from ≤ to) × (to ≤ length (now c)) × (at + 8 + (to - from) ≤ length (now out)) ⌝ }
-    ensures { λ r. ⌜ now (out .exit) ≡ sets (now (out .entry)) at (numberBytes (to - from) ++ take (to - from) (drop from (now (c .entry)))) ⌝ }
+    requires { ⌜ (from ≤ to) × (to ≤ length (now c)) ⌝ }
+    ensures { λ r. ⌜ now (out .exit) ≡ placed at (numberBytes (to - from) ++ take (to - from) (drop from (now (c .entry)))) (now (out .entry)) ⌝ }
 {
     output::put_counted(out, at, &c[from..to]);
 }
 
 fn put_framed(out: &mut [u8], c: &[u8])
     requires { ⌜ length (framedBytes (now c)) ≤ length (now out) ⌝ }
-    ensures { λ r. ⌜ now (out .exit) ≡ sets (now (out .entry)) 0 (framedBytes (now (c .entry))) ⌝ }
+    ensures { λ r. ⌜ now (out .exit) ≡ placed 0 (framedBytes (now (c .entry))) (now (out .entry)) ⌝ }
 {
     let mut at = 0;
     let mut i = 0;

@@ -3,7 +3,6 @@ use borrow.Author.Needs.{needs}
 use Rattle.block.proofs.put_numbers.Statement.{statement}
 use Rattle.block.proofs.put_numbers.Tie as tie
 use Prim.Native.Nat.{_-_}
-use native.Mathlib.Omega.{arith}
 use lib.ListN.{length}
 use Rattle.block.proofs.Laws.{Putting, putting-none, putting-more, putting-all}
 
@@ -19,11 +18,11 @@ put-numbers-spec =
     (tie.spec
     Inv-loop
     μ-loop
-    (λ c. putting-none _ _)
+    (λ c. putting-none _ _ (c .before .before .pre))
     (λ c. search needs)
     (λ c. search needs)
     (λ c. search needs)
-    (λ c κs. omega (arith, c .before .before .before .before .before .before .pre, c .before .before .before .loop .inv .size))
+    (λ c κs. search needs)
     (λ c. search needs)
     (λ c. search needs)
     (λ c. putting-more _ _ _ _ (c .before .before .before .before .before .before .loop .inv) _ (c .before .before .before .before .before .loop-test .taken) (c .before .before .put-number .ensures))

@@ -6,10 +6,8 @@ use native.Mathlib.Omega.{arith}
 use mathlib.Core.Path.{ap}
 use mathlib.Core.List.{List}
 use Prim.Native.Nat.{ℕ}
-use denote.Ref.{now}
 use lib.ListN.{length}
 use Rattle.layouts.specs.Writers.{stringBytes}
-use Rattle.output.proofs.Laws.{length-string}
 use Rattle.sets.proofs.Sets.{entry-put}
 
 pub put-entry-spec : {M : Type 1} → statement M
@@ -17,8 +15,8 @@ put-entry-spec =
     tie.close
     (tie.spec
     (λ c κs. search needs)
-    (λ c κs. omega (arith, ap (λ (d : List ℕ). length (stringBytes d)) (c .before .entry .ensures)))
     (λ c κs. search needs)
-    (λ c. omega (arith, ap (λ (d : List ℕ). length (stringBytes d)) (c .before .before .before .before .before .entry .ensures), length-string (now (c .before .before .before .before .before .entry .result))))
+    (λ c κs. search needs)
+    (λ c. omega (arith, ap (λ (d : List ℕ). length (stringBytes d)) (c .before .before .before .before .before .entry .ensures)))
     (λ c. search needs)
     (λ c. entry-put _ _ _ _ _ _ (c .before .before .before .before .before .entry .ensures) (c .string-length .ensures) (c .before .before .before .put-string .ensures)))

@@ -2,13 +2,12 @@
 use borrow.Author.Needs.{needs}
 use Rattle.sets.proofs.put_set.Statement.{statement}
 use Rattle.sets.proofs.put_set.Tie as tie
-use native.Mathlib.Omega.{arith}
 use Prim.Native.Nat.{_-_, _≤_}
 use denote.Ref.{now}
 use Rattle.layouts.specs.Writers.{stringsBytes}
 use Rattle.sets.specs.Sets.{partsFrom}
 use Rattle.output.proofs.Laws.{Filling}
-use Rattle.sets.proofs.Sets.{set-start, set-room, set-turn, set-end, length-set-bytes}
+use Rattle.sets.proofs.Sets.{set-start, set-room, set-turn, set-end}
 
 abbrev Inv-loop : tie.InvT-loop
 Inv-loop out₀ bytes entries count at₀ i₀ out at i =
@@ -16,11 +15,6 @@ Inv-loop out₀ bytes entries count at₀ i₀ out at i =
 
 abbrev μ-loop : tie.MeasureT-loop
 μ-loop out₀ bytes entries count at₀ i₀ out at i = count - i
-
-put-number-requires : tie.Need-put-number-requires Inv-loop μ-loop
-put-number-requires c κs =
-    let a = c .before .before .before .before .args in
-    omega (arith, length-set-bytes (partsFrom (a .bytes .now) (a .entries .now) (a .count) 0))
 
 loop-holds : tie.Need-loop-holds Inv-loop μ-loop
 loop-holds c =
@@ -44,7 +38,7 @@ returns : tie.Need-returns Inv-loop μ-loop
 returns c =
     let a = c .before .before .before .before .before .before .before .before .before .args in
     let l = c .before .loop in
-    set-end (a .bytes .now) (a .entries .now) (a .count) _ _ _ _ (l .i) (c .loop-test .left) (c .before .before .before .before .put-number .ensures) (l .inv .0)
+    set-end (a .bytes .now) (a .entries .now) (a .count) _ _ (c .before .before .before .before .before .before .before .before .before .pre) (c .before .before .before .before .put-number .ensures) _ _ (l .i) (c .loop-test .left) (l .inv .0)
 
 pub put-set-spec : {M : Type 1} → statement M
 put-set-spec =
@@ -52,7 +46,7 @@ put-set-spec =
     (tie.spec
     Inv-loop
     μ-loop
-    put-number-requires
+    (λ c κs. search needs)
     loop-holds
     put-entry-requires
     (λ c. search needs)

@@ -17,7 +17,7 @@ returns c =
 returns-2 : tie.Need-returns-2
 returns-2 c =
     let a = c .before .before .before .before .before .before .before .before .before .before .before .before .args in
-    done (a .a .now ++ a .b .now) _ _ _ (sym (length-append (a .a .now) (a .b .now))) (c .before .before .before .before .before .before .before .before .if1 .left) (then _ _ _ 0 (length (a .a .now)) (a .a .now) (a .b .now) (omega arith) (c .before .before .before .before .before .before .put .ensures) (c .before .before .put2 .ensures))
+    done (a .a .now ++ a .b .now) _ _ _ (sym (length-append (a .a .now) (a .b .now))) (c .before .before .before .before .before .before .before .before .if1 .left) (then _ _ _ 0 (length (a .a .now)) (a .a .now) (a .b .now) (omega arith) (omega arith) (c .before .before .before .before .before .before .put .ensures) (c .before .before .put2 .ensures))
 
 pub write-two-spec : {M : Type 1} → statement M
 write-two-spec =

@@ -8,7 +8,7 @@ use denote.Ref.{now}
 use lib.ListN.{length, drop}
 use Rattle.layouts.specs.Writers.{framedBytes}
 use Rattle.output.proofs.Laws.{Filling, filling-start}
-use Rattle.writers.proofs.Framed.{framed-room, framed-turn, framed-last, framed-end}
+use Rattle.writers.proofs.Framed.{framed-room, framed-turn, framed-end}
 
 abbrev Inv-loop : tie.InvT-loop
 Inv-loop out₀ c at₀ i₀ out at i = Filling out₀ 0 (framedBytes c) out at (framedBytes (drop i c)) × (i ≤ length c)
@@ -31,11 +31,6 @@ loop-again c =
     let l = c .before .before .before .before .before .before .loop in
     (framed-turn (c .before .before .before .before .before .before .before .before .before .args .c .now) (l .i) _ (c .before .before .before .before .before .loop-test .taken) (c .before .before .before .before .least .ensures) _ _ _ (l .inv .0) _ (l .i + c .before .before .before .before .least .result - l .i) (omega arith) (c .before .before .put-chunk .ensures), omega arith)
 
-put-number-requires : tie.Need-put-number-requires Inv-loop μ-loop
-put-number-requires c κs =
-    let l = c .before .before .loop in
-    framed-last (c .before .before .before .before .before .args .c .now) (l .i) (c .before .loop-test .left) _ _ _ (l .inv .0)
-
 returns : tie.Need-returns Inv-loop μ-loop
 returns c =
     let l = c .before .before .before .before .before .loop in
@@ -51,11 +46,11 @@ put-framed-spec =
     (λ c. search needs)
     (λ c κs. search needs)
     (λ c. search needs)
-    (λ c κs. (search needs, omega arith, omega (arith, roomy (c .before))))
+    (λ c κs. (search needs, omega arith))
     (λ c. omega (arith, roomy (c .before .before .before .before)))
     (λ c. omega (arith, roomy (c .before .before .before .before)))
     (λ c. search needs)
     loop-again
-    put-number-requires
+    (λ c κs. search needs)
     (λ c. search needs)
     returns)

@@ -2,21 +2,19 @@
 use borrow.Author.Needs.{needs}
 use Rattle.writers.proofs.write_bytes.Statement.{statement}
 use Rattle.writers.proofs.write_bytes.Tie as tie
-use native.Mathlib.Omega.{arith}
-use mathlib.Core.Path.{sym, _∙_}
 use denote.Ref.{now}
 use Rattle.layouts.specs.Writers.{stringBytes}
-use Rattle.output.proofs.Laws.{length-string, done, full}
+use Rattle.output.proofs.Laws.{done, full}
 
 returns : tie.Need-returns
 returns c =
     let a = c .before .before .before .before .args in
-    full (stringBytes (a .c .now)) _ _ (c .before .string-length .ensures ∙ sym (length-string (a .c .now))) (c .if1 .taken)
+    full (stringBytes (a .c .now)) _ _ (c .before .string-length .ensures) (c .if1 .taken)
 
 returns-2 : tie.Need-returns-2
 returns-2 c =
     let a = c .before .before .before .before .before .before .before .before .args in
-    done (stringBytes (a .c .now)) _ _ _ (c .before .before .before .before .before .string-length .ensures ∙ sym (length-string (a .c .now))) (c .before .before .before .before .if1 .left) (c .before .before .put-string .ensures)
+    done (stringBytes (a .c .now)) _ _ _ (c .before .before .before .before .before .string-length .ensures) (c .before .before .before .before .if1 .left) (c .before .before .put-string .ensures)
 
 pub write-bytes-spec : {M : Type 1} → statement M
 write-bytes-spec =
@@ -24,6 +22,6 @@ write-bytes-spec =
     (tie.spec
     (λ c κs. search needs)
     returns
-    (λ c κs. omega (arith, length-string (c .before .before .before .before .before .args .c .now)))
+    (λ c κs. search needs)
     (λ c. search needs)
     returns-2)
