@@ -8,7 +8,7 @@ ghost use Rattle.block.specs.Block.{refusalOf, numbersOf, numberOf, bloc
 use judge::Answer;
 use judge::Outcome;
 
-const BLOCK: usize = 200;
+pub const BLOCK: usize = 200;
 
 fn refusal(o: Outcome) -> [u64; 3]
     ensures { λ r. ⌜ (r ≡ refusalOf o) × (length r ≡ 3) ⌝ }

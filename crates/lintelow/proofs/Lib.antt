@@ -1,2 +1,4 @@
--- `Unique`: each exported contract has one answer.
+-- `Unique`, `UniqueReads` and `UniqueWrites`: each exported contract has one answer.
 pub mod Unique
+pub mod UniqueReads
+pub mod UniqueWrites

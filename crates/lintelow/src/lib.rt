@@ -17,9 +17,8 @@ ghost use Rattle.protocol_bytes.specs.Bytes.{argumentsRead, replyRead, bytesAft
 ghost use Rattle.skips.specs.Skips.{stringSkipped, resultSkipped};
 ghost use Rattle.block.specs.Block.{guarded, numberOf, blockAfter};
 
-const BLOCK: usize = 200;
-
-const SHORT_BLOCK: u64 = 10;
+pub mod reads;
+pub mod writes;
 
 #[no_mangle]
 pub extern "C" fn lintelow_read_op_args(
@@ -36,8 +35,8 @@ pub extern "C" fn lintelow_read_op_args(
     ensures entries { λ r. ⌜ now (entries .exit) ≡ bytesAfter (guarded (now (block .entry)) (argumentsRead op (version major minor) (now (s .entry)) (now (entries .entry)) (now (payload .entry)))) (run (argumentsTree op (version major minor)) (now (s .entry)) 0) (now (entries .entry)) ⌝ }
     ensures payload { λ r. ⌜ now (payload .exit) ≡ payloadAfter (guarded (now (block .entry)) (argumentsRead op (version major minor) (now (s .entry)) (now (entries .entry)) (now (payload .entry)))) (now (s .entry)) (run (argumentsTree op (version major minor)) (now (s .entry)) 0) (now (payload .entry)) ⌝ }
 {
-    if block.len() < BLOCK {
-        return SHORT_BLOCK;
+    if block.len() < block::BLOCK {
+        return output::OUTPUT_FULL;
     }
     let arguments = protocol_bytes::read_op_args(op, major, minor, s, entries, payload);
     block::put(block, arguments)
@@ -58,8 +57,8 @@ pub extern "C" fn lintelow_read_daemon_result(
     ensures entries { λ r. ⌜ now (entries .exit) ≡ bytesAfter (guarded (now (block .entry)) (replyRead op (version major minor) (now (s .entry)) (now (entries .entry)) (now (payload .entry)))) (run (replyTree op (version major minor)) (now (s .entry)) 0) (now (entries .entry)) ⌝ }
     ensures payload { λ r. ⌜ now (payload .exit) ≡ payloadAfter (guarded (now (block .entry)) (replyRead op (version major minor) (now (s .entry)) (now (entries .entry)) (now (payload .entry)))) (now (s .entry)) (run (replyTree op (version major minor)) (now (s .entry)) 0) (now (payload .entry)) ⌝ }
 {
-    if block.len() < BLOCK {
-        return SHORT_BLOCK;
+    if block.len() < block::BLOCK {
+        return output::OUTPUT_FULL;
     }
     let reply = protocol_bytes::read_daemon_result(op, major, minor, s, entries, payload);
     block::put(block, reply)
@@ -115,8 +114,8 @@ pub extern "C" fn lintelow_read_stderr_with_error(
     ensures block { λ r. ⌜ now (block .exit) ≡ blockAfter (now (block .entry)) (answerAs (readStderrWithError (now (s .entry)) (length (now (entries .entry)) / 16))) ⌝ }
     ensures entries { λ r. ⌜ now (entries .exit) ≡ bytesAfter (guarded (now (block .entry)) (readStderrWithError (now (s .entry)) (length (now (entries .entry)) / 16))) (errorPieces (now (s .entry)) (stderrLoop (now (s .entry)))) (now (entries .entry)) ⌝ }
 {
-    if block.len() < BLOCK {
-        return SHORT_BLOCK;
+    if block.len() < block::BLOCK {
+        return output::OUTPUT_FULL;
     }
     let told = stderr::read_stderr_with_error_bytes(s, entries);
     block::put(block, told)
@@ -133,8 +132,8 @@ pub extern "C" fn lintelow_parse_handshake(
     ensures block { λ r. ⌜ now (block .exit) ≡ blockAfter (now (block .entry)) (answerAs (parseHandshake (now (client .entry)) (now (daemon .entry)) (length (now (entries .entry)) / 16))) ⌝ }
     ensures entries { λ r. ⌜ now (entries .exit) ≡ lentAfter (guarded (now (block .entry)) (parseHandshake (now (client .entry)) (now (daemon .entry)) (length (now (entries .entry)) / 16))) (bytesOf (heardEntries (hear handshake (now (client .entry)) (now (daemon .entry)) 0 0 blank))) (now (entries .entry)) ⌝ }
 {
-    if block.len() < BLOCK {
-        return SHORT_BLOCK;
+    if block.len() < block::BLOCK {
+        return output::OUTPUT_FULL;
     }
     let greeted = handshake::parse_handshake_bytes(client, daemon, entries);
     block::put(block, greeted)
@@ -152,8 +151,8 @@ pub extern "C" fn lintelow_parse_daemon_handshake(
     ensures block { λ r. ⌜ now (block .exit) ≡ blockAfter (now (block .entry)) (answerAs (parseDaemonHandshake (version major minor) (now (daemon .entry)) (length (now (entries .entry)) / 16))) ⌝ }
     ensures entries { λ r. ⌜ now (entries .exit) ≡ lentAfter (guarded (now (block .entry)) (parseDaemonHandshake (version major minor) (now (daemon .entry)) (length (now (entries .entry)) / 16))) (bytesOf (heardEntries (hear (daemonHandshake (version major minor)) [] (now (daemon .entry)) 0 0 blank))) (now (entries .entry)) ⌝ }
 {
-    if block.len() < BLOCK {
-        return SHORT_BLOCK;
+    if block.len() < block::BLOCK {
+        return output::OUTPUT_FULL;
     }
     let heard = handshake::parse_daemon_handshake_bytes(major, minor, daemon, entries);
     block::put(block, heard)

@@ -34,7 +34,7 @@ told-by : (r : Fault) → toldBy (meaning r) ≡ r
 told-by None = refl
 told-by (Refused which place) = refl
 
-fault-unique : (r r' : Fault) → meaning r ≡ meaning r' → r ≡ r'
+pub fault-unique : (r r' : Fault) → meaning r ≡ meaning r' → r ≡ r'
 fault-unique r r' e = sym (told-by r) ∙ ap toldBy e ∙ told-by r'
 
 pub entry-determined : Determined 2 entry-kinds.ps entry-kinds.r entry.Post (λ κs r. r .now)

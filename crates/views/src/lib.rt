@@ -11,7 +11,7 @@ ghost use Rattle.views.specs.Fault.{meaning, faultOf};
 pub const NO_SUCH_ENTRY: u64 = 11;
 
 // The refusal of an entry that passes the end of the bytes.
-const BAD_ENTRY: u64 = 12;
+pub const BAD_ENTRY: u64 = 12;
 
 const DIRECTORY_LENGTH: usize = 11;
 

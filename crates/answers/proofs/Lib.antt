@@ -1,0 +1,2 @@
+-- `Unique`: each public contract has one answer.
+pub mod Unique

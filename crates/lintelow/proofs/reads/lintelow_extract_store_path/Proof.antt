@@ -1,0 +1,25 @@
+-- `lintelow::reads::lintelow_extract_store_path` meets its contract: the answer of the call is put.
+use borrow.Author.Needs.{needs}
+use Rattle.lintelow.proofs.reads.lintelow_extract_store_path.Statement.{statement}
+use Rattle.lintelow.proofs.reads.lintelow_extract_store_path.Tie as tie
+use mathlib.Core.Path.{_∙_, ap}
+use mathlib.Core.Bool.{Bool}
+use denote.Ref.{now}
+use Rattle.layouts.specs.Primitive.{ok}
+use Rattle.layouts.specs.Writers.{isStorePath}
+use Rattle.judge.specs.Judged.{answerAs}
+use Rattle.answers.specs.Answers.{yesNo}
+use Rattle.block.proofs.Guard.{told-number, told-block}
+
+returns : tie.Need-returns
+returns c = let e = c .before .before .before .yes-no .ensures ∙ ap (λ (x : Bool). answerAs (yesNo (ok x))) (c .before .before .before .before .before .extract-store-path .ensures) in (told-number (now (c .before .before .before .before .before .before .before .before .args .block)) (answerAs (yesNo (ok (isStorePath (now (c .before .before .before .before .before .before .before .before .args .c)))))) _ _ e (c .before .before .put .ensures .0), told-block (now (c .before .before .before .before .before .before .before .before .args .block)) (answerAs (yesNo (ok (isStorePath (now (c .before .before .before .before .before .before .before .before .args .c)))))) _ _ e (c .before .before .put .ensures .1))
+
+pub lintelow-extract-store-path-spec : {M : Type 1} → statement M
+lintelow-extract-store-path-spec =
+    tie.close
+    (tie.spec
+    (λ c κs. search needs)
+    (λ c κs. search needs)
+    (λ c κs. search needs)
+    (λ c. search needs)
+    returns)

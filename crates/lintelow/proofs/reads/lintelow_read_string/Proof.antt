@@ -1,0 +1,25 @@
+-- `lintelow::reads::lintelow_read_string` meets its contract: the answer of the call is put.
+use borrow.Author.Needs.{needs}
+use Rattle.lintelow.proofs.reads.lintelow_read_string.Statement.{statement}
+use Rattle.lintelow.proofs.reads.lintelow_read_string.Tie as tie
+use mathlib.Core.Path.{_∙_, ap}
+use denote.Ref.{now}
+use Rattle.layouts.specs.Primitive.{Result}
+use Rattle.pieces.specs.Pieces.{Span}
+use Rattle.judge.specs.Judged.{answerAs}
+use Rattle.wire.specs.Answers.{readText}
+use Rattle.answers.specs.Answers.{stringRead}
+use Rattle.block.proofs.Guard.{told-number, told-block}
+
+returns : tie.Need-returns
+returns c = let e = c .before .before .before .string .ensures ∙ ap (λ (x : Result Span). answerAs (stringRead x)) (c .before .before .before .before .before .read-string .ensures) in (told-number (now (c .before .before .before .before .before .before .before .before .args .block)) (answerAs (stringRead (readText (now (c .before .before .before .before .before .before .before .before .args .s)) (c .before .before .before .before .before .before .before .before .args .at)))) _ _ e (c .before .before .put .ensures .0), told-block (now (c .before .before .before .before .before .before .before .before .args .block)) (answerAs (stringRead (readText (now (c .before .before .before .before .before .before .before .before .args .s)) (c .before .before .before .before .before .before .before .before .args .at)))) _ _ e (c .before .before .put .ensures .1))
+
+pub lintelow-read-string-spec : {M : Type 1} → statement M
+lintelow-read-string-spec =
+    tie.close
+    (tie.spec
+    (λ c κs. search needs)
+    (λ c κs. search needs)
+    (λ c κs. search needs)
+    (λ c. search needs)
+    returns)

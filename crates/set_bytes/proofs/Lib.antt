@@ -1,0 +1,2 @@
+-- `Unique`: the public contract leaves one answer.
+pub mod Unique

@@ -1,0 +1,11 @@
+-- `set_bytes::fit` meets its contract.
+use Rattle.set_bytes.proofs.fit.Statement.{statement}
+use Rattle.set_bytes.proofs.fit.Tie as tie
+use borrow.Author.Tests.{le-leb, lt-leb}
+
+pub fit-spec : {M : Type 1} → statement M
+fit-spec =
+    tie.close
+    (tie.spec
+    (λ c. simp (lt-leb _ _ (c .if1 .taken)))
+    (λ c. simp (le-leb _ _ (c .if1 .left))))
