@@ -9,23 +9,26 @@ use native.Mathlib.Omega.{arith}
 use native.Mathlib.Decide.{decLe}
 use Rattle.layouts.specs.declared.Record.{Record}
 use Rattle.layouts.specs.Primitive.{numberAt, Result, ok, refused, onward}
-use Rattle.layouts.specs.Shape.{frames, stop}
+use Rattle.layouts.specs.Shape.{Tree, framed, frames, stop}
 use Rattle.layouts.specs.Pieces.{Pieces, Chunk, part, chunkOf, afterChunk, chunks, end, run, skipOf, totalOf}
 use Rattle.layouts.specs.Record.{blank, withNumber, withPayload}
-use Rattle.layouts.specs.Judge.{chunkTaken, Ended, judgeOf, payloadOf}
-use Rattle.layouts.specs.Calls.{readFramed, skipFramed}
+use Rattle.layouts.specs.Judge.{chunkTaken, Ended, judgeOf, payloadOf, lentAfter}
+use Rattle.layouts.specs.Calls.{field, readFramed, skipFramed}
 use Rattle.layouts.proofs.Views.{ChunkView, no-size, is-last, too-large, no-bytes, is-part, chunk-view}
 use Rattle.layouts.proofs.Steps.{frames-short, frames-last, frames-long, frames-cut, frames-part}
 use Rattle.layouts.proofs.Placed.{Placed, on-number, on-text, on-half, on-chunk, on-end, on-fault, run-placed}
-use Rattle.layouts.proofs.Judge.{payload-length}
+use Rattle.layouts.proofs.Judge.{payload-length, judge-read}
 use Rattle.pieces.specs.declared.Chunk as C
 use Rattle.pieces.specs.declared.Chunk.the-variants.{Part, Last, Wrong}
 use Rattle.pieces.specs.Pieces.{chunkRead}
 use Rattle.pieces.proofs.Fields.{field-framed}
 use Rattle.pieces.proofs.Numbers.{as-told}
 use Rattle.pieces.proofs.Found.{chunk-known}
+use Rattle.runs.specs.declared.Total.{Total}
+use Rattle.runs.specs.declared.Total.the-variants as T
+use Rattle.runs.specs.Runs as R
 use Rattle.runs.specs.Runs.{framesFrom, fronted}
-use Rattle.runs.proofs.Filling.{Filling, filling-room, filling-put, filling-end, chunk-length}
+use Rattle.runs.proofs.Filling.{Filling, filling-room, filling-put, filling-end, chunk-length, lent-kept, lent-fronted}
 
 -- a total as number 0, and as payload
 abbrev pub numbered : Ended → Result Ended
@@ -168,3 +171,28 @@ module _ (s : List ℕ) where
       rw field-framed
       (ap (λ (o : Result Ended). onward o numbered) (chunks-alike (length s) (suc (length s)) at blank (omega arith))
       ∙ total-on (skipOf (framesFrom s at)) (totalOf (framesFrom s at)))
+
+-- ---- judged, then joined
+module _ (s : List ℕ) (at : ℕ) (lent : List ℕ) (r : Total) (e : R.totalOf r ≡ readFramed s at (length lent)) where
+  abbrev answer : Result Ended
+  answer = readFramed s at (length lent)
+
+  abbrev payload : List ℕ
+  payload = payloadOf s (run (field framed) s at)
+
+  pub framed-refused : (which place : ℕ) → r ≡ T.Refused which place → (refused which place 0 ≡ answer) × (lent ≡ lentAfter answer payload lent)
+  framed-refused which place q = let t = as-told R.totalOf q e in (t, lent-kept answer payload lent which place t)
+
+  module _ (total next : ℕ) (q : r ≡ T.Bytes total next) where
+    -- what was judged fits
+    pub frames-fit : length (payloadOf s (framesFrom s at)) ≤ length lent
+    unfolding framesJudged
+    frames-fit =
+        let t = frames-total s at (decLe at (length s)) in
+        let j = judge-read s 0 (length lent) blank (framesFrom s at) _ (frames-all s (length lent) at ∙ sym (as-told R.totalOf q e)) .fits (omega arith) (omega arith) in
+        omega arith
+
+    pub framed-read : (out : List ℕ) → out ≡ fronted (payloadOf s (framesFrom s at)) lent → (paid total next ≡ answer) × (out ≡ lentAfter answer payload lent)
+    framed-read out h =
+        let t = as-told R.totalOf q e in
+        (t, lent-fronted answer payload lent _ _ out t (ap (λ (f : Tree). payloadOf s (run f s at)) field-framed) h)

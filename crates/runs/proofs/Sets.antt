@@ -1,6 +1,6 @@
 -- The strings of a set, one by one, against what `layouts` says of them: judged, then filled in.
-use Prim.Native.Nat.{ℕ, zero, suc, _+_, _-_, _≤_, _<_}
-use mathlib.Core.Path.{_≡_, refl, _∙_, ap}
+use Prim.Native.Nat.{ℕ, zero, suc, _+_, _-_, _/_, _≤_, _<_}
+use mathlib.Core.Path.{_≡_, refl, sym, _∙_, ap}
 use mathlib.Core.List.{List, [], _∷_}
 use mathlib.Core.Bool.{Bool, true, false, _&&_}
 use lib.ListN.{length}
@@ -11,17 +11,20 @@ use Rattle.layouts.specs.declared.Record.{Record}
 use Rattle.layouts.specs.Primitive.{pick, numberAt, noEntryRoom, Result, ok, refused, onward}
 use Rattle.layouts.specs.Shape.{Role, passed, kept, Tree, say, stop, strings, units}
 use Rattle.layouts.specs.Pieces.{Text, textOf, afterText, run}
-use Rattle.layouts.specs.Record.{withEntries, isKept, entered}
-use Rattle.layouts.specs.Judge.{notText, textTaken, halfTaken, Ended, judgeOf, entriesOf}
+use Rattle.layouts.specs.Record.{blank, withEntries, isKept, entered}
+use Rattle.layouts.specs.Judge.{notText, textTaken, halfTaken, Ended, judgeOf, entriesOf, lentAfter}
 use Rattle.layouts.proofs.Views.{TextView, no-length, too-long, no-contents, no-padding, is-whole, text-view}
+use Rattle.layouts.proofs.Judge.{judge-read, entries-length}
 use Rattle.pieces.specs.declared.Judged.{Judged}
 use Rattle.pieces.specs.declared.Judged.the-variants as J
 use Rattle.pieces.specs.declared.Text as T
 use Rattle.pieces.specs.declared.Text.the-variants.{Whole, Half, Bad}
 use Rattle.pieces.specs.Pieces.{Span, textRead, judgedRead, roleOf, spanOf, stringAt}
 use Rattle.pieces.proofs.Numbers.{as-told}
-use Rattle.runs.specs.Runs.{stringsAt, setFrom, fronted}
-use Rattle.runs.proofs.Filling.{Filling, filling-room, filling-put, filling-end}
+use Rattle.runs.specs.declared.Passed.{Passed}
+use Rattle.runs.specs.declared.Passed.the-variants as P
+use Rattle.runs.specs.Runs.{passedTo, stringsAt, setFrom, fronted}
+use Rattle.runs.proofs.Filling.{Filling, filling-room, filling-put, filling-end, lent-kept, lent-fronted}
 
 -- ---- each way through the loop that judges, at string i
 module _ (s : List ℕ) (d : Bool) (slots count : ℕ) where
@@ -139,3 +142,27 @@ module _ (s : List ℕ) (count i at : ℕ) (lent es₀ out : List ℕ) (n : ℕ)
 -- the whole set is to come
 pub entries-all : (s : List ℕ) (n at : ℕ) → entriesOf (setFrom s (n - 0) at) ≡ entriesOf (setFrom s n at)
 entries-all s n at = ap (λ (k : ℕ). entriesOf (setFrom s k at)) (omega arith)
+
+-- ---- judged, then filled in
+module _ (s : List ℕ) (n at : ℕ) (lent : List ℕ) (r : Passed) (e : passedTo r ≡ stringsAt s true (length lent / 2) 0 n at) where
+  abbrev answer : Result ℕ
+  answer = stringsAt s true (length lent / 2) 0 n at
+
+  abbrev entries : List ℕ
+  entries = entriesOf (setFrom s n at)
+
+  pub set-refused : (which place : ℕ) → r ≡ P.Refused which place → (refused which place 0 ≡ answer) × (lent ≡ lentAfter answer entries lent)
+  set-refused which place q = let t = as-told passedTo q e in (t, lent-kept answer entries lent which place t)
+
+  module _ (next : ℕ) (q : r ≡ P.Past next) where
+    -- what was judged fits
+    pub set-fits : length entries ≤ length lent
+    set-fits =
+        let p = setFrom s n at in
+        let j = judge-kept s (length lent / 2) n at blank
+        ∙ ap (λ (x : Result ℕ). onward x (λ y. ok (record { found = withEntries blank (0 + n); ends = y }))) (sym (as-told passedTo q e)) in
+        let t = judge-read s (length lent / 2) 0 blank p _ j .fits (omega arith) (omega arith) in
+        omega (arith, entries-length p)
+
+    pub set-read : (out : List ℕ) → out ≡ fronted entries lent → (ok next ≡ answer) × (out ≡ lentAfter answer entries lent)
+    set-read out h = let t = as-told passedTo q e in (t, lent-fronted answer entries lent next entries out t refl h)

@@ -1,12 +1,15 @@
-// Runs of pieces: the strings of a set and the chunks of framed data. Judging writes nothing; filling looks at no text and no room, since what it
-// fills in was judged before.
+// Runs of pieces: the strings of a set and the chunks of framed data. Reading judges first, without writes, and fills only then: a refusal changes no
+// lent memory, and filling looks at no text and no room.
 ghost use mathlib.Core.Path.{_≡_};
 ghost use mathlib.Core.List.{[], _∷_};
-ghost use Prim.Native.Nat.{_+_, _≤_};
+ghost use mathlib.Core.Bool.{true};
+ghost use Prim.Native.Nat.{_+_, _/_, _≤_};
 ghost use lib.ListN.{length, take, drop};
 ghost use lib.Seq.{sets};
-ghost use Rattle.layouts.specs.Judge.{entriesOf, payloadOf};
-ghost use Rattle.layouts.specs.Calls.{readFramed};
+ghost use Rattle.layouts.specs.Shape.{framed};
+ghost use Rattle.layouts.specs.Pieces.{run};
+ghost use Rattle.layouts.specs.Judge.{entriesOf, payloadOf, lentAfter};
+ghost use Rattle.layouts.specs.Calls.{field, readFramed};
 ghost use Rattle.runs.specs.Runs.{passedTo, totalOf, stringsAt, setFrom, framesFrom, fronted};
 use pieces::Chunk;
 use pieces::Judged;
@@ -103,7 +106,7 @@ fn put_entry(out: &mut [u64], at: usize, start: usize, len: usize)
 }
 
 // Start and length of each string of a set.
-pub fn fill_entries(s: &[u8], from: usize, count: u64, out: &mut [u64])
+fn fill_entries(s: &[u8], from: usize, count: u64, out: &mut [u64])
     requires { ⌜ length (entriesOf (setFrom (now s) count from)) ≤ length (now out) ⌝ }
     ensures { λ r. ⌜ now (out .exit) ≡ fronted (entriesOf (setFrom (now (s .entry)) count from)) (now (out .entry)) ⌝ }
 {
@@ -138,7 +141,7 @@ fn put_chunk(s: &[u8], start: usize, len: usize, out: &mut [u8], filled: usize)
 }
 
 // The chunks, joined.
-pub fn join_frames(s: &[u8], from: usize, out: &mut [u8])
+fn join_frames(s: &[u8], from: usize, out: &mut [u8])
     requires { ⌜ length (payloadOf (now s) (framesFrom (now s) from)) ≤ length (now out) ⌝ }
     ensures { λ r. ⌜ now (out .exit) ≡ fronted (payloadOf (now (s .entry)) (framesFrom (now (s .entry)) from)) (now (out .entry)) ⌝ }
 {
@@ -157,6 +160,35 @@ pub fn join_frames(s: &[u8], from: usize, out: &mut [u8])
             Chunk::Wrong { which: _, place: _ } => {
                 return;
             }
+        }
+    }
+}
+
+// So many strings that are text, with start and length of each in the room.
+pub fn read_strings(s: &[u8], from: usize, count: u64, entries: &mut [u64]) -> Passed
+    ensures answer { λ r. ⌜ passedTo r ≡ stringsAt (now (s .entry)) true (length (now (entries .entry)) / 2) 0 count from ⌝ }
+    ensures room { λ r. ⌜ now (entries .exit) ≡ lentAfter (stringsAt (now (s .entry)) true (length (now (entries .entry)) / 2) 0 count from) (entriesOf (setFrom (now (s .entry)) count from)) (now (entries .entry)) ⌝ }
+{
+    let slots = (entries.len() / 2) as u64;
+    match strings_at(s, from, count, true, slots) {
+        Passed::Refused { which, place } => Passed::Refused { which, place },
+        Passed::Past(next) => {
+            fill_entries(s, from, count, entries);
+            Passed::Past(next)
+        }
+    }
+}
+
+// The chunks up to the empty one, joined in the room.
+pub fn read_frames(s: &[u8], from: usize, out: &mut [u8]) -> Total
+    ensures answer { λ r. ⌜ totalOf r ≡ readFramed (now (s .entry)) from (length (now (out .entry))) ⌝ }
+    ensures room { λ r. ⌜ now (out .exit) ≡ lentAfter (readFramed (now (s .entry)) from (length (now (out .entry)))) (payloadOf (now (s .entry)) (run (field framed) (now (s .entry)) from)) (now (out .entry)) ⌝ }
+{
+    match frames_at(s, from, out.len()) {
+        Total::Refused { which, place } => Total::Refused { which, place },
+        Total::Bytes { total, next } => {
+            join_frames(s, from, out);
+            Total::Bytes { total, next }
         }
     }
 }

@@ -1,5 +1,5 @@
 -- What is read of the field of a set: the count was found, and so many strings were passed.
-use Prim.Native.Nat.{ℕ, _+_, _/_, _≤_}
+use Prim.Native.Nat.{ℕ, _+_, _/_}
 use mathlib.Core.Path.{_≡_, refl, sym, _∙_, ap}
 use mathlib.Core.List.{List}
 use mathlib.Core.Bool.{true, false}
@@ -12,7 +12,6 @@ use Rattle.layouts.specs.Record.{blank, withNumber, withCount, withEntries, not
 use Rattle.layouts.specs.Judge.{Ended, judgeOf, entriesOf, lentAfter}
 use Rattle.layouts.specs.Calls.{field, peekNumber, readStringSet, skipStringSet}
 use Rattle.layouts.proofs.Steps.{ask-short, ask-value}
-use Rattle.layouts.proofs.Judge.{judge-read, entries-length}
 use Rattle.number.specs.declared.Number.{Number}
 use Rattle.number.specs.declared.Number.the-variants.{Value, Short}
 use Rattle.pieces.specs.Pieces.{numRead}
@@ -20,9 +19,9 @@ use Rattle.pieces.proofs.Fields.{field-set}
 use Rattle.pieces.proofs.Numbers.{as-told, number-known, number-short}
 use Rattle.runs.specs.declared.Passed.{Passed}
 use Rattle.runs.specs.declared.Passed.the-variants as P
-use Rattle.runs.specs.Runs.{passedTo, stringsAt, setFrom, fronted}
+use Rattle.runs.specs.Runs.{passedTo, stringsAt, setFrom}
 use Rattle.runs.proofs.Sets.{judge-kept, judge-passed}
-use Rattle.runs.proofs.Filling.{lent-kept, lent-fronted}
+use Rattle.runs.proofs.Filling.{lent-kept}
 
 module _ (s : List ℕ) (at : ℕ) (r : Number) (e : numRead r ≡ peekNumber s at) where
   module _ (q : r ≡ Short) where
@@ -51,37 +50,39 @@ module _ (s : List ℕ) (at : ℕ) (r : Number) (e : numRead r ≡ peekNumber s 
       pub skip-set-refused : (which place : ℕ) → o ≡ P.Refused which place → refused which place 0 ≡ skipStringSet s at
       skip-set-refused which place g = skip-set-as (P.Refused which place) g
 
-    module _ (lent : List ℕ) (f : passedTo o ≡ stringsAt s true (length lent / 2) 0 n (at + 8)) where
-      abbrev answer : Result Ended
-      answer = readStringSet s at (length lent / 2)
+    module _ (lent : List ℕ) (f : passedTo o ≡ stringsAt s true (length lent / 2) 0 n (at + 8)) (out : List ℕ)
+        (h : out ≡ lentAfter (stringsAt s true (length lent / 2) 0 n (at + 8)) (entriesOf (setFrom s n (at + 8))) lent) where
+      abbrev counted : ℕ → Result Ended
+      counted p = ok (record { found = withEntries (withCount blank 0 n) n; ends = p })
 
-      set-as : (o' : Passed) → o ≡ o' → onward (passedTo o') (λ p. ok (record { found = withEntries (withCount blank 0 n) n; ends = p })) ≡ answer
+      set-is : onward (stringsAt s true (length lent / 2) 0 n (at + 8)) counted ≡ readStringSet s at (length lent / 2)
       unfolding judgeOf noted
-      set-as o' g =
+      set-is =
           let k = number-known s at r e n q in
-          rw (as-told passedTo g f, field-set kept (asCount 0), ask-value s at n (k .1) (asCount 0) (λ v. units kept 0 v (λ u. stop)) (k .0))
+          rw (field-set kept (asCount 0), ask-value s at n (k .1) (asCount 0) (λ v. units kept 0 v (λ u. stop)) (k .0))
           (sym (judge-kept s (length lent / 2) n (at + 8) (withCount blank 0 n)
           ∙ ap (λ (i : ℕ). onward (stringsAt s true (length lent / 2) 0 n (at + 8)) (λ p. ok (record { found = withEntries (withCount blank 0 n) i; ends = p }))) (omega arith)))
 
-      pub set-refused : (new : List ℕ) (which place : ℕ) → o ≡ P.Refused which place → (refused which place 0 ≡ answer) × (lent ≡ lentAfter answer new lent)
-      set-refused new which place g = let t = set-as (P.Refused which place) g in (t, lent-kept answer new lent which place t)
+      entries-is : entriesOf (run (field (set kept (asCount 0))) s at) ≡ entriesOf (setFrom s n (at + 8))
+      unfolding entriesOf
+      entries-is = let k = number-known s at r e n q in rw (field-set kept (asCount 0), ask-value s at n (k .1) (asCount 0) (λ v. units kept 0 v (λ u. stop)) (k .0))
 
-      module _ (next : ℕ) (g : o ≡ P.Past next) where
-        -- what was judged fits
-        pub set-fits : length (entriesOf (setFrom s n (at + 8))) ≤ length lent
-        set-fits =
-            let p = setFrom s n (at + 8) in
-            let j = judge-kept s (length lent / 2) n (at + 8) blank
-            ∙ ap (λ (x : Result ℕ). onward x (λ y. ok (record { found = withEntries blank (0 + n); ends = y }))) (sym (as-told passedTo g f)) in
-            let t = judge-read s (length lent / 2) 0 blank p _ j .fits (omega arith) (omega arith) in
-            omega (arith, entries-length p)
+      -- the room holds the entries where the strings were read
+      lent-on : (x : Result ℕ) (new : List ℕ) → lentAfter (onward x counted) new lent ≡ lentAfter x new lent
+      lent-on (ok p) new = refl
+      lent-on (refused which place stream) new = refl
 
-        pub set-read : (out : List ℕ) → out ≡ fronted (entriesOf (setFrom s n (at + 8))) lent
-            → (ok (record { found = withEntries (withCount blank 0 n) n; ends = next }) ≡ answer) × (out ≡ lentAfter answer (entriesOf (run (field (set kept (asCount 0))) s at)) lent)
-        unfolding entriesOf
-        set-read out h =
-            let t = set-as (P.Past next) g in
-            let k = number-known s at r e n q in
-            let l : entriesOf (run (field (set kept (asCount 0))) s at) ≡ entriesOf (setFrom s n (at + 8)) =
-            rw (field-set kept (asCount 0), ask-value s at n (k .1) (asCount 0) (λ v. units kept 0 v (λ u. stop)) (k .0)) in
-            (t, lent-fronted answer _ lent _ _ out t l h)
+      set-as : (o' : Passed) → o ≡ o' → (onward (passedTo o') counted ≡ readStringSet s at (length lent / 2))
+          × (out ≡ lentAfter (readStringSet s at (length lent / 2)) (entriesOf (run (field (set kept (asCount 0))) s at)) lent)
+      set-as o' g = (
+        ap (λ (x : Result ℕ). onward x counted) (as-told passedTo g f) ∙ set-is,
+        rw (← set-is, entries-is, lent-on) h,
+      )
+
+      pub set-refused : (which place : ℕ) → o ≡ P.Refused which place → (refused which place 0 ≡ readStringSet s at (length lent / 2))
+          × (out ≡ lentAfter (readStringSet s at (length lent / 2)) (entriesOf (run (field (set kept (asCount 0))) s at)) lent)
+      set-refused which place g = set-as (P.Refused which place) g
+
+      pub set-read : (next : ℕ) → o ≡ P.Past next → (counted next ≡ readStringSet s at (length lent / 2))
+          × (out ≡ lentAfter (readStringSet s at (length lent / 2)) (entriesOf (run (field (set kept (asCount 0))) s at)) lent)
+      set-read next g = set-as (P.Past next) g

@@ -9,6 +9,7 @@ ghost use Rattle.layouts.specs.Judge.{entriesOf, payloadOf, lentAfter};
 ghost use Rattle.layouts.specs.Calls.{field, readNumber, readU32, peekNumber, skipString, readStringSet, skipStringSet, readFramed, skipFramed};
 ghost use Rattle.wire.specs.Answers.{numberRead, countRead, totalRead, peeked, spanned, skippedTo, readBytes, readText};
 ghost use Rattle.pieces.specs.Pieces.{stringAt};
+ghost use Rattle.runs.specs.Runs.{totalOf};
 use number::Number;
 use pieces::Judged;
 use runs::Passed;
@@ -62,10 +63,10 @@ fn string_at(s: &[u8], at: usize, decoded: bool) -> Spanned
 }
 
 // Framed data, with the cursor after it.
-fn frames_at(s: &[u8], at: usize, room: usize) -> Read
-    ensures { λ r. ⌜ totalRead r ≡ readFramed (now (s .entry)) at room ⌝ }
+fn after_frames(t: Total) -> Read
+    ensures { λ r. ⌜ totalRead r ≡ totalOf t ⌝ }
 {
-    match runs::frames_at(s, at, room) {
+    match t {
         Total::Bytes { total, next } => Read::Value {
             value: total,
             next: Cursor { at: next },
@@ -146,7 +147,7 @@ impl Cursor {
         }
     }
 
-    // First all is judged, then the entries are written: a refusal changes nothing.
+    // All is judged before entries are written: a refusal changes nothing.
     pub fn read_string_set(self, s: &[u8], entries: &mut [u64]) -> Read
         ensures answer { λ r. ⌜ countRead r ≡ readStringSet (now (s .entry)) (self .at) (length (now (entries .entry)) / 2) ⌝ }
         ensures room { λ r. ⌜ now (entries .exit) ≡ lentAfter (readStringSet (now (s .entry)) (self .at) (length (now (entries .entry)) / 2)) (entriesOf (run (field (set kept (asCount 0))) (now (s .entry)) (self .at))) (now (entries .entry)) ⌝ }
@@ -158,17 +159,13 @@ impl Cursor {
                 place: at,
             },
             Number::Value(kept) => {
-                let slots = (entries.len() / 2) as u64;
                 let first = at + 8;
-                match runs::strings_at(s, first, kept, true, slots) {
+                match runs::read_strings(s, first, kept, entries) {
                     Passed::Refused { which, place } => Read::Refused { which, place },
-                    Passed::Past(next) => {
-                        runs::fill_entries(s, first, kept, entries);
-                        Read::Value {
-                            value: kept,
-                            next: Cursor { at: next },
-                        }
-                    }
+                    Passed::Past(next) => Read::Value {
+                        value: kept,
+                        next: Cursor { at: next },
+                    },
                 }
             }
         }
@@ -202,20 +199,15 @@ impl Cursor {
         ensures answer { λ r. ⌜ totalRead r ≡ readFramed (now (s .entry)) (self .at) (length (now (out .entry))) ⌝ }
         ensures room { λ r. ⌜ now (out .exit) ≡ lentAfter (readFramed (now (s .entry)) (self .at) (length (now (out .entry)))) (payloadOf (now (s .entry)) (run (field framed) (now (s .entry)) (self .at))) (now (out .entry)) ⌝ }
     {
-        let at = self.at;
-        match frames_at(s, at, out.len()) {
-            Read::Refused { which, place } => Read::Refused { which, place },
-            Read::Value { value, next } => {
-                runs::join_frames(s, at, out);
-                Read::Value { value, next }
-            }
-        }
+        let total = runs::read_frames(s, self.at, out);
+        after_frames(total)
     }
 
     // Answers the payload's length. The stream itself is room enough for all its chunks.
     pub fn skip_framed(self, s: &[u8]) -> Read
         ensures { λ r. ⌜ numberRead r ≡ skipFramed (now (s .entry)) (self .at) ⌝ }
     {
-        frames_at(s, self.at, s.len())
+        let total = runs::frames_at(s, self.at, s.len());
+        after_frames(total)
     }
 }

@@ -5,7 +5,7 @@ use Rattle.wire.proofs.Cursor.read_string_set.Tie as tie
 use native.Mathlib.Omega.{arith}
 use denote.Ref.{now}
 use Rattle.pieces.proofs.Numbers.{number-known}
-use Rattle.wire.proofs.Sets.{set-cut, set-refused, set-fits, set-read}
+use Rattle.wire.proofs.Sets.{set-cut, set-refused, set-read}
 
 pub read-string-set-spec : {M : Type 1} → statement M
 read-string-set-spec =
@@ -18,8 +18,8 @@ read-string-set-spec =
     (λ c κs. search needs)
     (λ c. search needs)
     (λ c. search needs)
-    (λ c κs. search set-fits)
     (λ c. set-cut (now (c .before .before .before .before .before .args .s)) (c .before .before .before .before .before .args .self .at) _ (c .before .before .number-at .ensures) (c .enum-told .given .1) _ _ _)
-    (λ c. set-refused (now (c .before .before .before .before .before .before .before .before .before .before .args .s)) (c .before .before .before .before .before .before .before .before .before .before .args .self .at) _ (c .before .before .before .before .before .before .before .number-at .ensures) _ (c .before .before .before .before .before .kept .given .1) _ (now (c .before .before .before .before .before .before .before .before .before .before .args .entries)) (c .before .before .before .strings-at .ensures) _ _ _ (c .before .which .given .1))
     (λ c. search needs)
-    (λ c. set-read (now (c .before .before .before .before .before .before .before .before .before .before .before .before .before .before .args .s)) (c .before .before .before .before .before .before .before .before .before .before .before .before .before .before .args .self .at) _ (c .before .before .before .before .before .before .before .before .before .before .before .number-at .ensures) _ (c .before .before .before .before .before .before .before .before .before .kept .given .1) _ (now (c .before .before .before .before .before .before .before .before .before .before .before .before .before .before .args .entries)) (c .before .before .before .before .before .before .before .strings-at .ensures) _ (c .before .before .before .before .before .next .given .1) _ (c .before .before .fill-entries .ensures)))
+    (λ c. set-refused (now (c .before .before .before .before .before .before .before .before .before .before .before .before .before .args .s)) (c .before .before .before .before .before .before .before .before .before .before .before .before .before .args .self .at) _ (c .before .before .before .before .before .before .before .before .before .before .number-at .ensures) _ (c .before .before .before .before .before .before .before .before .kept .given .1) _ (now (c .before .before .before .before .before .before .before .before .before .before .before .before .before .args .entries)) (c .before .before .before .before .before .read-strings .ensures .0) _ (c .before .before .before .before .before .read-strings .ensures .1) _ _ (c .before .which .given .1))
+    (λ c. search needs)
+    (λ c. set-read (now (c .before .before .before .before .before .before .before .before .before .before .before .before .before .args .s)) (c .before .before .before .before .before .before .before .before .before .before .before .before .before .args .self .at) _ (c .before .before .before .before .before .before .before .before .before .before .number-at .ensures) _ (c .before .before .before .before .before .before .before .before .kept .given .1) _ (now (c .before .before .before .before .before .before .before .before .before .before .before .before .before .args .entries)) (c .before .before .before .before .before .read-strings .ensures .0) _ (c .before .before .before .before .before .read-strings .ensures .1) _ (c .before .next .given .1)))

@@ -2,6 +2,7 @@
 use borrow.Author.Needs.{needs}
 use Rattle.wire.proofs.Cursor.skip_framed.Statement.{statement}
 use Rattle.wire.proofs.Cursor.skip_framed.Tie as tie
+use mathlib.Core.Path.{_∙_}
 use Rattle.wire.proofs.Frames.{framed-skip}
 
 pub skip-framed-spec : {M : Type 1} → statement M
@@ -9,4 +10,5 @@ skip-framed-spec =
     tie.close
     (tie.spec
     (λ c κs. search needs)
-    (λ c. search framed-skip))
+    (λ c κs. search needs)
+    (λ c. framed-skip _ _ (c .after-frames .result) (c .after-frames .ensures ∙ c .before .frames-at .ensures)))
