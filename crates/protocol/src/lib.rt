@@ -1,6 +1,7 @@
 // Arguments and replies by operation, under the names of nix-wire's protocol.rs. Each call takes the part of the stream that starts where the last one
 // ended. Reading judges first, in a walk without writes, and fills only then, so a refusal changes no lent memory.
 ghost use mathlib.Core.Path.{_≡_};
+ghost use lib.ListN.{length};
 ghost use Rattle.layouts.specs.Primitive.{version};
 ghost use Rattle.layouts.specs.Pieces.{run};
 ghost use Rattle.layouts.specs.Record.{blank};
@@ -38,7 +39,7 @@ fn fill_entries(s: &[u8], major: u16, minor: u8, run: usize, kept: usize, entrie
 }
 
 // Where there is no payload likewise.
-pub fn join_payload(s: &[u8], major: u16, minor: u8, run: usize, total: usize, payload: &mut [u8])
+fn join_payload(s: &[u8], major: u16, minor: u8, run: usize, total: usize, payload: &mut [u8])
     requires { ⌜ Reported total (payloadOf (now s) (layoutPieces (version major minor) run (now s) 0)) (now payload) ⌝ }
     ensures { λ r. ⌜ now (payload .exit) ≡ fronted (payloadOf (now (s .entry)) (layoutPieces (version major minor) run (now (s .entry)) 0)) (now (payload .entry)) ⌝ }
 {
@@ -49,7 +50,7 @@ pub fn join_payload(s: &[u8], major: u16, minor: u8, run: usize, total: usize, p
 }
 
 // Judges the layout that starts at a run, without writes, for room for so many entries and payload bytes. The kind of the answer is by its code.
-pub fn judge_run(
+fn judge_run(
     s: &[u8],
     major: u16,
     minor: u8,
@@ -88,6 +89,29 @@ pub fn judge_run(
     }
 }
 
+// The same, and what is judged fine has its payload in the room; its entries are left to the caller.
+pub fn read_payload(
+    s: &[u8],
+    major: u16,
+    minor: u8,
+    run: usize,
+    code: u8,
+    slots: usize,
+    payload: &mut [u8],
+) -> Answer
+    ensures answer { λ r. ⌜ r ≡ answerAs (answeredAs (version major minor) code (judgeOf (now (s .entry)) slots (length (now (payload .entry))) blank (layoutPieces (version major minor) run (now (s .entry)) 0))) ⌝ }
+    ensures payload { λ r. ⌜ now (payload .exit) ≡ lentAfter (judgeOf (now (s .entry)) slots (length (now (payload .entry))) blank (layoutPieces (version major minor) run (now (s .entry)) 0)) (payloadOf (now (s .entry)) (layoutPieces (version major minor) run (now (s .entry)) 0)) (now (payload .entry)) ⌝ }
+{
+    let a = judge_run(s, major, minor, run, code, slots, payload.len());
+    let found = a.found;
+    let o = a.outcome;
+    let Outcome::Fine = o else {
+        return a;
+    };
+    join_payload(s, major, minor, run, found.payload, payload);
+    a
+}
+
 // What is judged fine is filled in.
 fn read(
     s: &[u8],
@@ -103,14 +127,13 @@ fn read(
     ensures payload { λ r. ⌜ now (payload .exit) ≡ lentAfter (runRead (version major minor) run (now (s .entry)) (now (entries .entry)) (now (payload .entry))) (payloadOf (now (s .entry)) (layoutPieces (version major minor) run (now (s .entry)) 0)) (now (payload .entry)) ⌝ }
 {
     let slots = entries.len() / 2;
-    let a = judge_run(s, major, minor, run, code, slots, payload.len());
+    let a = read_payload(s, major, minor, run, code, slots, payload);
     let found = a.found;
     let o = a.outcome;
     let Outcome::Fine = o else {
         return a;
     };
     fill_entries(s, major, minor, run, found.entries, entries);
-    join_payload(s, major, minor, run, found.payload, payload);
     a
 }
 

@@ -39,14 +39,13 @@ fn read(
     ensures payload { λ r. ⌜ now (payload .exit) ≡ lentAfter (runRead (version major minor) run (now (s .entry)) (now (entries .entry)) (now (payload .entry))) (payloadOf (now (s .entry)) (layoutPieces (version major minor) run (now (s .entry)) 0)) (now (payload .entry)) ⌝ }
 {
     let slots = entries.len() / 16;
-    let a = protocol::judge_run(s, major, minor, run, code, slots, payload.len());
+    let a = protocol::read_payload(s, major, minor, run, code, slots, payload);
     let found = a.found;
     let o = a.outcome;
     let Outcome::Fine = o else {
         return a;
     };
     fill_entries(s, major, minor, run, found.entries, entries);
-    protocol::join_payload(s, major, minor, run, found.payload, payload);
     a
 }
 
