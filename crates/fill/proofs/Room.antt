@@ -12,7 +12,7 @@ use Rattle.layouts.proofs.Little.{length-number}
 use Rattle.output.specs.Numbers.{bytesOf}
 use Rattle.output.specs.Placed.{placed}
 use Rattle.output.proofs.Laws as Output
-use Rattle.fill.specs.Fill.{Put}
+use Rattle.fill.specs.Fill.{Put, Filling}
 
 set-past : (l : List ℕ) (i x : ℕ) → length l ≤ i → set l i x ≡ l
 set-past [] i x h = refl
@@ -106,14 +106,17 @@ put-all l vs o k p h =
     let e : 0 + length vs ≡ length vs = omega arith in
     p .then [] ∙ ap (sets l 0) (append-nil vs) ∙ sets-eq vs l 0 (omega arith) ∙ ap (λ (n : ℕ). vs ++ drop n l) e
 
--- ---- the loops: es are to come from place n of the room on, on the way from the lent one with es₀ to come
-pub record Filling (lent : List ℕ) (from : ℕ) (es₀ out : List ℕ) (n : ℕ) (es : List ℕ) : Type 0 where
-  pub size : length out ≡ length lent
-  pub same : (ws : List ℕ) → sets out n (es ++ ws) ≡ sets lent from (es₀ ++ ws)
-
+-- ---- the loops
 module _ (lent : List ℕ) (from : ℕ) (es₀ : List ℕ) where
   pub filling-start : (es : List ℕ) → es ≡ es₀ → Filling lent from es₀ lent from es
   filling-start es e = record { size = refl; same = λ ws. ap (λ (x : List ℕ). sets lent from (x ++ ws)) e }
+
+  pub filling-as : (out : List ℕ) (n : ℕ) (es es₁ es' : List ℕ) → es₀ ≡ es₁ → es' ≡ es → Filling lent from es₁ out n es → Filling lent from es₀ out n es'
+  filling-as out n es es₁ es' e e' f =
+      record {
+        size = f .size;
+        same = λ ws. ap (λ (x : List ℕ). sets out n (x ++ ws)) e' ∙ f .same ws ∙ ap (λ (x : List ℕ). sets lent from (x ++ ws)) (sym e);
+      }
 
   module _ (out : List ℕ) (n : ℕ) (es : List ℕ) (f : Filling lent from es₀ out n es) where
     pub filling-put : (vs rest out' : List ℕ) (n' : ℕ) → es ≡ vs ++ rest → Put out n vs out' n' → Filling lent from es₀ out' n' rest
@@ -122,6 +125,10 @@ module _ (lent : List ℕ) (from : ℕ) (es₀ : List ℕ) where
           size = p .size ∙ f .size;
           same = λ ws. p .then (rest ++ ws) ∙ ap (sets out n) (sym (append-assoc vs rest ws)) ∙ ap (λ (x : List ℕ). sets out n (x ++ ws)) (sym e) ∙ f .same ws;
         }
+
+    -- as far as another loop went
+    pub filling-on : (out' : List ℕ) (n' : ℕ) (es' : List ℕ) → Filling out n es out' n' es' → Filling lent from es₀ out' n' es'
+    filling-on out' n' es' g = record { size = g .size ∙ f .size; same = λ ws. g .same ws ∙ f .same ws }
 
     pub filling-end : es ≡ [] → Put lent from es₀ out n
     filling-end e = record { size = f .size; then = λ ws. sym (ap (λ (x : List ℕ). sets out n (x ++ ws)) e) ∙ f .same ws }

@@ -9,8 +9,12 @@ ghost use Rattle.layouts.specs.Primitive.{version};
 ghost use Rattle.layouts.specs.Judge.{entriesOf, payloadOf};
 ghost use Rattle.walk.specs.Walk.{rest, fuel, layoutPieces};
 ghost use Rattle.output.specs.Numbers.{bytesOf};
-ghost use Rattle.fill.specs.Fill.{keptOf, chunkedOf, FoundFalls, Put};
+ghost use Rattle.fill.specs.Fill.{keptOf, chunkedOf, FoundFalls, rowAt, InRowOf, Put, Filling};
+use pieces::Text;
+use strings::More;
+use walk::Flow;
 use walk::Step;
+use walk::Todo;
 use walk::Walk;
 
 // The next part of the stream that is to be reported, and the walk after it.
@@ -21,6 +25,26 @@ enum Found {
         next: Walk,
     },
     Over,
+}
+
+// What is left of a row of strings, from a place on.
+struct Row {
+    at: usize,
+    pend: u64,
+    extra: u64,
+    left: u64,
+}
+
+// The next string of a row, and what is left after it. Where the row ends, or is refused, it is the walk that goes on.
+enum InRow {
+    Part { start: usize, len: usize, row: Row },
+    Over,
+}
+
+// A walk, and where in the room goes what it has yet to report.
+struct Filled {
+    walk: Walk,
+    place: usize,
 }
 
 // The next string that is kept, past whatever comes before it.
@@ -76,6 +100,53 @@ fn next_kept(s: &[u8], w: Walk) -> Found
                 return Found::Over;
             }
         }
+    }
+}
+
+fn next_in_row(s: &[u8], row: Row) -> InRow
+    ensures { λ r. ⌜ InRowOf (now (s .entry)) row r ⌝ }
+{
+    let extra = row.extra;
+    let m = strings::after_next(row.pend, extra, row.left);
+    match m {
+        More::None => InRow::Over,
+        More::String { pend, left } => {
+            let t = pieces::text_at(s, row.at);
+            match t {
+                Text::Bad { which: _, place: _ } => InRow::Over,
+                Text::Half { start: _, len: _ } => InRow::Over,
+                Text::Whole { start, len, next } => {
+                    let after = Row {
+                        at: next,
+                        pend,
+                        extra,
+                        left,
+                    };
+                    InRow::Part {
+                        start,
+                        len,
+                        row: after,
+                    }
+                }
+            }
+        }
+    }
+}
+
+// The walk that stands before a row.
+fn before_row(role: u8, row: Row, flow: Flow) -> Walk
+    ensures { λ r. ⌜ r ≡ rowAt role flow row ⌝ }
+{
+    let todo = Todo::Strings {
+        role,
+        pend: row.pend,
+        extra: row.extra,
+        left: row.left,
+    };
+    Walk {
+        at: row.at,
+        todo,
+        flow,
     }
 }
 
@@ -145,6 +216,52 @@ fn put_entry(out: &mut [u64], at: usize, start: usize, len: usize) -> usize
     put(out, second, len as u64)
 }
 
+// The entries of a row of strings that are kept, in one loop: a walk of one piece a call pays for its whole state at each.
+fn fill_row(s: &[u8], walk: Walk, out: &mut [u64], place: usize) -> Filled
+    ensures law { λ r. ⌜ Filling (now (out .entry)) place (entriesOf (rest (now (s .entry)) walk)) (now (out .exit)) (r .place) (entriesOf (rest (now (s .entry)) (r .walk))) ⌝ }
+    ensures falls { λ r. ⌜ fuel (now (s .entry)) (r .walk) ≤ fuel (now (s .entry)) walk ⌝ }
+{
+    let todo = walk.todo;
+    let Todo::Strings {
+        role,
+        pend,
+        extra,
+        left,
+    } = todo
+    else {
+        return Filled { walk, place };
+    };
+    if role < table::KEPT {
+        return Filled { walk, place };
+    }
+    let flow = walk.flow;
+    let at = walk.at;
+    let mut row = Row {
+        at,
+        pend,
+        extra,
+        left,
+    };
+    let mut n = place;
+    loop {
+        let e = next_in_row(s, row);
+        match e {
+            InRow::Over => {
+                let walk = before_row(role, row, flow);
+                return Filled { walk, place: n };
+            }
+            InRow::Part {
+                start,
+                len,
+                row: after,
+            } => {
+                n = put_entry(out, n, start, len);
+                row = after;
+            }
+        }
+    }
+}
+
 // Start and length of each string that is kept, into the room from a place on, and the place after them.
 pub fn fill_entries(
     s: &[u8],
@@ -166,8 +283,10 @@ pub fn fill_entries(
                 return n;
             }
             Found::Part { start, len, next } => {
-                n = put_entry(out, n, start, len);
-                w = next;
+                let after = put_entry(out, n, start, len);
+                let row = fill_row(s, next, out, after);
+                n = row.place;
+                w = row.walk;
             }
         }
     }
@@ -230,6 +349,52 @@ fn put_entry_bytes(out: &mut [u8], at: usize, start: usize, len: usize) -> usize
     put_chunk(&entry, 0, 16, out, at)
 }
 
+// The same as fill_row, with entries of sixteen bytes.
+fn fill_row_bytes(s: &[u8], walk: Walk, out: &mut [u8], place: usize) -> Filled
+    ensures law { λ r. ⌜ Filling (now (out .entry)) place (bytesOf (entriesOf (rest (now (s .entry)) walk))) (now (out .exit)) (r .place) (bytesOf (entriesOf (rest (now (s .entry)) (r .walk)))) ⌝ }
+    ensures falls { λ r. ⌜ fuel (now (s .entry)) (r .walk) ≤ fuel (now (s .entry)) walk ⌝ }
+{
+    let todo = walk.todo;
+    let Todo::Strings {
+        role,
+        pend,
+        extra,
+        left,
+    } = todo
+    else {
+        return Filled { walk, place };
+    };
+    if role < table::KEPT {
+        return Filled { walk, place };
+    }
+    let flow = walk.flow;
+    let at = walk.at;
+    let mut row = Row {
+        at,
+        pend,
+        extra,
+        left,
+    };
+    let mut n = place;
+    loop {
+        let e = next_in_row(s, row);
+        match e {
+            InRow::Over => {
+                let walk = before_row(role, row, flow);
+                return Filled { walk, place: n };
+            }
+            InRow::Part {
+                start,
+                len,
+                row: after,
+            } => {
+                n = put_entry_bytes(out, n, start, len);
+                row = after;
+            }
+        }
+    }
+}
+
 // The same as fill_entries, with entries of sixteen bytes.
 pub fn fill_entry_bytes(
     s: &[u8],
@@ -251,8 +416,10 @@ pub fn fill_entry_bytes(
                 return n;
             }
             Found::Part { start, len, next } => {
-                n = put_entry_bytes(out, n, start, len);
-                w = next;
+                let after = put_entry_bytes(out, n, start, len);
+                let row = fill_row_bytes(s, next, out, after);
+                n = row.place;
+                w = row.walk;
             }
         }
     }

@@ -8,9 +8,9 @@ use lib.ListN.{take, drop}
 use Rattle.layouts.specs.Primitive.{version}
 use Rattle.layouts.specs.Judge.{payloadOf}
 use Rattle.walk.specs.Walk.{rest, fuel, layoutPieces}
-use Rattle.fill.specs.Fill.{chunkedOf}
+use Rattle.fill.specs.Fill.{chunkedOf, Filling}
 use Rattle.fill.proofs.Parts.{found-falls}
-use Rattle.fill.proofs.Room.{Filling, filling-start, filling-put, filling-end}
+use Rattle.fill.proofs.Room.{filling-start, filling-put, filling-end}
 
 abbrev Inv-loop : tie.InvT-loop
 Inv-loop s at major minor run out₀ w₀ filled₀ out w filled = Filling out₀ 0 (payloadOf s (layoutPieces (version major minor) run s at)) out filled (payloadOf s (rest s w))
