@@ -2,8 +2,8 @@
 // one of zeros (empty strings and sets, false flags), and one whose every number is 1. Each line says from which version on the answer is what.
 use judge::Answer;
 use judge::Outcome;
-use judge::Skipped;
 use protocol::Arguments;
+use skip::Skipped;
 
 struct Version {
     major: u16,

@@ -1,3 +1,1 @@
-pub mod Handshake
 pub mod Stderr
-pub mod Ops

@@ -1,4 +1,2 @@
-// Numbers that travel and what each stands for: protocol versions, codes of the stderr loop, operations. Modules and names are those of nix-wire.
-pub mod handshake;
-pub mod ops;
+// Numbers of the stderr loop and the code that each stands for. The module and its names are those of nix-wire.
 pub mod stderr;

@@ -12,18 +12,18 @@ ghost use Rattle.layouts.specs.Judge.{entriesOf, lentAfter};
 ghost use Rattle.layouts.specs.Stderr.{Last};
 ghost use Rattle.layouts.specs.Handshake.{numberIn, clientMagic, daemonMagic, versions, handshakeAnswer, hear, heardEntries, handshake, daemonHandshake, parseHandshake, parseDaemonHandshake};
 ghost use Rattle.table.specs.Table.{groupsAt};
-ghost use Rattle.codes.specs.Handshake.{versionOf};
+ghost use Rattle.versions.specs.Handshake.{versionOf};
 ghost use Rattle.walk.specs.Walk.{layoutPieces};
 ghost use Rattle.judge.specs.Judged.{answerAs};
 ghost use Rattle.output.specs.Numbers.{bytesOf};
 ghost use Rattle.fill.specs.Fill.{Put};
 ghost use Rattle.table.specs.Packed.{featuresDaemon, info};
 ghost use Rattle.handshake.specs.Sofar.{start, bothOf, said, judgedOf, placeOn, turnOf, required, afterTurn};
-use codes::handshake::ProtocolVersion;
 use judge::Answer;
 use judge::Judged;
 use judge::Outcome;
 use layouts::Record;
+use versions::handshake::ProtocolVersion;
 
 const WORKER_MAGIC_1: u64 = 0x6e697863;
 

@@ -6,7 +6,7 @@ use Rattle.layouts.specs.Primitive.{Result, ok, refused}
 use Rattle.layouts.specs.Record.{blank, withEntries}
 use Rattle.layouts.specs.Judge.{Ended, judgeOf}
 use Rattle.layouts.specs.Shape.{Tree}
-use Rattle.layouts.specs.Pieces.{run, skipOf}
+use Rattle.layouts.specs.Pieces.{run}
 use Rattle.layouts.specs.Calls as L
 use Rattle.walk.specs.Walk.{rest, fuel}
 use Rattle.judge.specs.declared.Outcome.the-variants.{Fine, Refused}
@@ -14,14 +14,10 @@ use Rattle.judge.specs.declared.Judged.{Judged}
 use Rattle.judge.specs.declared.Answer.{Answer}
 use Rattle.judge.specs.declared.Taken.{Taken}
 use Rattle.judge.specs.declared.Taken.the-variants as T
-use Rattle.judge.specs.declared.Swept.{Swept}
-use Rattle.judge.specs.declared.Swept.the-variants as W
 use Rattle.judge.specs.declared.Row.{Row}
 use Rattle.judge.specs.declared.Row.the-variants as O
 use Rattle.judge.specs.declared.Ran.{Ran}
 use Rattle.judge.specs.declared.Ran.the-variants as N
-use Rattle.judge.specs.declared.Skipped.{Skipped}
-use Rattle.judge.specs.declared.Skipped.the-variants as S
 
 -- a refusal says only number, place and stream
 abbrev pub judgedAs : Result Ended → Judged
@@ -32,23 +28,10 @@ abbrev pub answerAs : Result L.Answer → Answer
 answerAs (ok x) = record { outcome = Fine; kind = x .kind; ends = x .ends; ends2 = x .ends2; found = x .found }
 answerAs (refused which place stream) = record { outcome = Refused which place stream; kind = 0; ends = 0; ends2 = 0; found = blank }
 
-abbrev pub skipped : Skipped → Result ℕ
-skipped (S.Past ends) = ok ends
-skipped (S.Refused which place) = refused which place 0
-
 -- the record after one piece
 abbrev pub taken : (ℕ → Record) → Taken → Result Record
 taken with (T.Fine n) = ok (with n)
 taken with (T.Refused which place) = refused which place 0
-
--- skipping past the strings that a field has left: to what the rest is skipped to, and no measure grows
-abbrev pub sweptTo : List ℕ → Swept → Result ℕ
-sweptTo s (W.On w) = skipOf (rest s w)
-sweptTo s (W.Refused which place) = refused which place 0
-
-abbrev pub NoMore : List ℕ → (fuel : ℕ) → Swept → Type 0
-NoMore s f (W.On w) = fuel s w ≤ f
-NoMore s f (W.Refused which place) = Unit {0}
 
 -- judging past a row of strings: to what follows it, with the entries then
 abbrev pub rowTo : List ℕ → (slots room : ℕ) → Record → (Unit {0} → Tree) → Row → Result Ended

@@ -1,22 +1,20 @@
 // The judge: a walk without writes that ends in the record of a layout, or in the first refusal. Text and room are judged here, and not in the walk.
-// The skipper: the same walk, with no look at text and room.
 ghost use mathlib.Core.Path.{_≡_};
 ghost use Prim.Native.Nat.{ℕ, _+_, _-_, _≤_};
 ghost use lib.ListN.{length};
 ghost use Rattle.layouts.specs.Primitive.{version, refused};
 ghost use Rattle.layouts.specs.declared.Record.{Record};
 ghost use Rattle.layouts.specs.Shape.{truth, Tree};
-ghost use Rattle.layouts.specs.Pieces.{run, skipOf};
+ghost use Rattle.layouts.specs.Pieces.{run};
 ghost use Rattle.layouts.specs.Record.{blank, withNumber, withCount, withEntries, withPayload, noted};
 ghost use Rattle.layouts.specs.Judge.{notText, textTaken, halfTaken, chunkTaken, judgeOf};
 ghost use Rattle.table.specs.Table.{roleOf, slotOf};
 ghost use Rattle.walk.specs.Walk.{layoutPieces, rest, fuel};
-ghost use Rattle.judge.specs.Judged.{taken, judgedAs, answerAs, skipped, sweptTo, NoMore, rowTo, RowFrom, ranTo, RanFalls};
+ghost use Rattle.judge.specs.Judged.{taken, judgedAs, answerAs, rowTo, RowFrom, ranTo, RanFalls};
 ghost use Rattle.strings.specs.Strings.{row};
 use layouts::Record;
 use pieces::Text;
 use strings::More;
-use strings::Passed;
 use walk::Step;
 use walk::Todo;
 use walk::Walk;
@@ -56,20 +54,9 @@ pub struct Answer {
     pub found: Record,
 }
 
-pub enum Skipped {
-    Past(usize),
-    Refused { which: u64, place: usize },
-}
-
 // What a string or chunk makes of the entries, or of the payload, so far.
 enum Taken {
     Fine(usize),
-    Refused { which: u64, place: usize },
-}
-
-// The walk past the strings that a field has left, or the first refusal among them.
-enum Swept {
-    On(Walk),
     Refused { which: u64, place: usize },
 }
 
@@ -449,101 +436,6 @@ pub fn judge(
             }
             Step::Refused { which, place } => {
                 return refuse(which, place);
-            }
-        }
-    }
-}
-
-// All strings that a field has left, in one go.
-fn pass_strings(s: &[u8], w: Walk) -> Swept
-    ensures law { λ r. ⌜ skipOf (rest (now (s .entry)) w) ≡ sweptTo (now (s .entry)) r ⌝ }
-    ensures falls { λ r. ⌜ NoMore (now (s .entry)) (fuel (now (s .entry)) w) r ⌝ }
-{
-    let todo = w.todo;
-    match todo {
-        Todo::Strings {
-            role: _,
-            pend,
-            extra,
-            left,
-        } => {
-            let flow = w.flow;
-            let k = strings::pass(s, w.at, pend, extra, left);
-            match k {
-                Passed::Refused { which, place } => Swept::Refused { which, place },
-                Passed::Past(at) => {
-                    let v = Walk {
-                        at,
-                        todo: Todo::Fields,
-                        flow,
-                    };
-                    Swept::On(v)
-                }
-            }
-        }
-        Todo::Fields => Swept::On(w),
-        Todo::Number => Swept::On(w),
-        Todo::Chunks => Swept::On(w),
-    }
-}
-
-// Where the layout ends. No contents are looked at.
-pub fn skip(s: &[u8], at: usize, major: u16, minor: u8, run: usize) -> Skipped
-    ensures { λ r. ⌜ skipped r ≡ skipOf (layoutPieces (version major minor) run (now (s .entry)) at) ⌝ }
-{
-    let mut w = walk::begin(major, minor, run, at);
-    loop {
-        let st = walk::next(s, w);
-        match st {
-            Step::Number {
-                slot: _,
-                value: _,
-                place: _,
-                next,
-            } => {
-                let k = pass_strings(s, next);
-                match k {
-                    Swept::Refused { which, place } => {
-                        return Skipped::Refused { which, place };
-                    }
-                    Swept::On(v) => {
-                        w = v;
-                    }
-                }
-            }
-            Step::Text {
-                role: _,
-                start: _,
-                len: _,
-                next,
-            } => {
-                w = next;
-            }
-            Step::Half {
-                role: _,
-                start,
-                len,
-            } => {
-                return Skipped::Refused {
-                    which: CUT_SHORT,
-                    place: start + len,
-                };
-            }
-            Step::Chunk {
-                start: _,
-                len: _,
-                next,
-            } => {
-                w = next;
-            }
-            Step::Quiet(next) => {
-                w = next;
-            }
-            Step::Done(ends) => {
-                return Skipped::Past(ends);
-            }
-            Step::Refused { which, place } => {
-                return Skipped::Refused { which, place };
             }
         }
     }

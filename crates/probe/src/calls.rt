@@ -3,7 +3,7 @@ use crate::lent;
 use crate::reply;
 use crate::reply::Reply;
 use crate::request::Request;
-use codes::handshake::ProtocolVersion;
+use versions::handshake::ProtocolVersion;
 use wire::Cursor;
 
 const ENTRY_VIEW: u64 = 32;
@@ -58,7 +58,7 @@ fn writer(call: u64, x: u64, a: &[u8], entries: &[u64], room: &mut [u8]) -> Repl
 fn test(call: u64, x: u64, a: &[u8], entries: &[u64]) -> Reply {
     match call {
         30 => reply::decided(views::extract_store_path(a)),
-        31 => reply::framed_operation(codes::ops::op_has_client_framed_data(x)),
+        31 => reply::framed_operation(ops::op_has_client_framed_data(x)),
         ENTRY_VIEW => reply::fault(views::entry_fault(a, entries, x as usize)),
         _ => reply::version(ProtocolVersion::from_wire(x)),
     }

@@ -1,8 +1,8 @@
 // What a line says of a call, and how each answer of the library becomes that.
-use codes::handshake::ProtocolVersion;
-use codes::ops::Framed;
 use judge::Answer;
+use ops::Framed;
 use protocol::Arguments;
+use versions::handshake::ProtocolVersion;
 use views::Fault;
 use wire::Peeked;
 use wire::Read;
@@ -128,10 +128,10 @@ pub fn skipped_arguments(a: Arguments) -> Reply {
     r
 }
 
-pub fn skipped_reply(k: judge::Skipped) -> Reply {
+pub fn skipped_reply(k: skip::Skipped) -> Reply {
     match k {
-        judge::Skipped::Past(ends) => with(Outcome::Fine, ends),
-        judge::Skipped::Refused { which, place } => refused(which, place),
+        skip::Skipped::Past(ends) => with(Outcome::Fine, ends),
+        skip::Skipped::Refused { which, place } => refused(which, place),
     }
 }
 

@@ -22,12 +22,13 @@ use Rattle.layouts.proofs.Placed.{run-placed}
 use Rattle.layouts.proofs.Soft.{soft-run}
 use Rattle.layouts.proofs.Calls.{answer-of, meaningOf, soft-skip-reply, soft-read-reply, soft-rest-reply}
 use Rattle.judge.specs.declared.Answer as C
-use Rattle.judge.specs.declared.Skipped.{Skipped}
-use Rattle.judge.specs.declared.Skipped.the-variants as S
+use Rattle.skip.specs.declared.Skipped.{Skipped}
+use Rattle.skip.specs.declared.Skipped.the-variants as S
 use Rattle.judge.specs.declared.Outcome.the-variants.{Fine, Refused}
-use Rattle.judge.specs.Judged.{answerAs, skipped}
+use Rattle.judge.specs.Judged.{answerAs}
+use Rattle.skip.specs.Skipped.{skipped}
 use Rattle.judge.proofs.Answers.{answer-fine, refused-keeps, fine-reports, beyond}
-use Rattle.judge.proofs.Unique.{skipped-told}
+use Rattle.skip.proofs.Unique.{skipped-told}
 use Rattle.protocol.proofs.read_op_args.Reads as read-op-args
 use Rattle.protocol.proofs.read_op_args.Kinds as read-op-args-kinds
 use Rattle.protocol.proofs.read_daemon_result.Reads as read-daemon-result

@@ -5,8 +5,8 @@ use borrow.Fn.Kinds.{Dens, endedOf}
 use denote.Triple.Clauses.{AtExit}
 use denote.Ref.{now}
 use Rattle.judge.specs.declared.Answer.{Answer}
-use Rattle.judge.specs.declared.Skipped.{Skipped}
-use Rattle.judge.proofs.Unique.{skipped-told}
+use Rattle.skip.specs.declared.Skipped.{Skipped}
+use Rattle.skip.proofs.Unique.{skipped-told}
 use Rattle.protocol.specs.declared.Arguments.{Arguments}
 use Rattle.protocol.proofs.read_op_args.Reads as read-op-args
 use Rattle.protocol.proofs.read_op_args.Kinds as read-op-args-kinds

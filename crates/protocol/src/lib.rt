@@ -8,11 +8,12 @@ ghost use Rattle.layouts.specs.Record.{blank};
 ghost use Rattle.layouts.specs.Judge.{judgeOf, entriesOf, payloadOf, lentAfter};
 ghost use Rattle.layouts.specs.Calls.{argumentsTree, skippedTree, replyTree, skipOpArgs, skipDaemonResult, entriesAfter, payloadAfter};
 ghost use Rattle.walk.specs.Walk.{layoutPieces};
-ghost use Rattle.judge.specs.Judged.{answerAs, skipped};
+ghost use Rattle.judge.specs.Judged.{answerAs};
+ghost use Rattle.skip.specs.Skipped.{skipped};
 ghost use Rattle.protocol.specs.Protocol.{argumentsRead, replyRead, runRead, answeredAs, argumentsAs, fronted, Reported};
 use judge::Answer;
 use judge::Outcome;
-use judge::Skipped;
+use skip::Skipped;
 use table::Found;
 
 pub const UNKNOWN_OPERATION: u64 = 9;
@@ -77,7 +78,7 @@ fn judge_run(
             found: found,
         },
         Outcome::Fine => {
-            let kind = table::kind_of(code, major, minor, found.present);
+            let kind = kinds::kind_of(code, major, minor, found.present);
             Answer {
                 outcome: o,
                 kind: kind,
@@ -149,7 +150,7 @@ pub fn read_op_args(
     ensures entries { λ r. ⌜ now (entries .exit) ≡ entriesAfter (argumentsRead op (version major minor) (now (s .entry)) (now (entries .entry)) (now (payload .entry))) (run (argumentsTree op (version major minor)) (now (s .entry)) 0) (now (entries .entry)) ⌝ }
     ensures payload { λ r. ⌜ now (payload .exit) ≡ payloadAfter (argumentsRead op (version major minor) (now (s .entry)) (now (entries .entry)) (now (payload .entry))) (now (s .entry)) (run (argumentsTree op (version major minor)) (now (s .entry)) 0) (now (payload .entry)) ⌝ }
 {
-    let f = table::find(op);
+    let f = operations::find(op);
     match f {
         Found::Unknown => judge::refused_answer(UNKNOWN_OPERATION, 0),
         Found::Row(row) => read(
@@ -169,7 +170,7 @@ pub fn skip_op_args(op: u64, major: u16, minor: u8, s: &[u8]) -> Arguments
     ensures { λ r. ⌜ r ≡ argumentsAs (skipOpArgs op (version major minor) (now (s .entry))) (entriesOf (run (skippedTree op (version major minor)) (now (s .entry)) 0)) ⌝ }
 {
     let mut entry: [u64; 2] = [0u64; 2];
-    let f = table::find(op);
+    let f = operations::find(op);
     match f {
         Found::Unknown => Arguments {
             outcome: Outcome::Refused {
@@ -220,7 +221,7 @@ pub fn read_daemon_result(
     ensures entries { λ r. ⌜ now (entries .exit) ≡ entriesAfter (replyRead op (version major minor) (now (s .entry)) (now (entries .entry)) (now (payload .entry))) (run (replyTree op (version major minor)) (now (s .entry)) 0) (now (entries .entry)) ⌝ }
     ensures payload { λ r. ⌜ now (payload .exit) ≡ payloadAfter (replyRead op (version major minor) (now (s .entry)) (now (entries .entry)) (now (payload .entry))) (now (s .entry)) (run (replyTree op (version major minor)) (now (s .entry)) 0) (now (payload .entry)) ⌝ }
 {
-    let f = table::find(op);
+    let f = operations::find(op);
     match f {
         Found::Unknown => judge::refused_answer(UNKNOWN_OPERATION, 0),
         Found::Row(row) => read(s, major, minor, row.reply, row.reply_kind, entries, payload),
@@ -231,12 +232,12 @@ pub fn read_daemon_result(
 pub fn skip_daemon_result(op: u64, major: u16, minor: u8, s: &[u8]) -> Skipped
     ensures { λ r. ⌜ skipped r ≡ skipDaemonResult op (version major minor) (now (s .entry)) ⌝ }
 {
-    let f = table::find(op);
+    let f = operations::find(op);
     match f {
         Found::Unknown => Skipped::Refused {
             which: UNKNOWN_OPERATION,
             place: 0,
         },
-        Found::Row(row) => judge::skip(s, 0, major, minor, row.reply),
+        Found::Row(row) => skip::skip(s, 0, major, minor, row.reply),
     }
 }

@@ -61,7 +61,7 @@ pub fn read_op_args(
     ensures entries { λ r. ⌜ now (entries .exit) ≡ bytesAfter (argumentsRead op (version major minor) (now (s .entry)) (now (entries .entry)) (now (payload .entry))) (run (argumentsTree op (version major minor)) (now (s .entry)) 0) (now (entries .entry)) ⌝ }
     ensures payload { λ r. ⌜ now (payload .exit) ≡ payloadAfter (argumentsRead op (version major minor) (now (s .entry)) (now (entries .entry)) (now (payload .entry))) (now (s .entry)) (run (argumentsTree op (version major minor)) (now (s .entry)) 0) (now (payload .entry)) ⌝ }
 {
-    let f = table::find(op);
+    let f = operations::find(op);
     match f {
         Found::Unknown => judge::refused_answer(protocol::UNKNOWN_OPERATION, 0),
         Found::Row(row) => read(
@@ -88,7 +88,7 @@ pub fn read_daemon_result(
     ensures entries { λ r. ⌜ now (entries .exit) ≡ bytesAfter (replyRead op (version major minor) (now (s .entry)) (now (entries .entry)) (now (payload .entry))) (run (replyTree op (version major minor)) (now (s .entry)) 0) (now (entries .entry)) ⌝ }
     ensures payload { λ r. ⌜ now (payload .exit) ≡ payloadAfter (replyRead op (version major minor) (now (s .entry)) (now (entries .entry)) (now (payload .entry))) (now (s .entry)) (run (replyTree op (version major minor)) (now (s .entry)) 0) (now (payload .entry)) ⌝ }
 {
-    let f = table::find(op);
+    let f = operations::find(op);
     match f {
         Found::Unknown => judge::refused_answer(protocol::UNKNOWN_OPERATION, 0),
         Found::Row(row) => read(s, major, minor, row.reply, row.reply_kind, entries, payload),

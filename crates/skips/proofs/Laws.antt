@@ -10,8 +10,9 @@ use Rattle.layouts.specs.Primitive.{pick, Result, ok, refused}
 use Rattle.layouts.specs.Calls as L
 use Rattle.judge.specs.declared.Outcome.{Outcome}
 use Rattle.judge.specs.declared.Answer.{Answer}
-use Rattle.judge.specs.declared.Skipped.{Skipped}
-use Rattle.judge.specs.Judged.{answerAs, skipped}
+use Rattle.skip.specs.declared.Skipped.{Skipped}
+use Rattle.judge.specs.Judged.{answerAs}
+use Rattle.skip.specs.Skipped.{skipped}
 use Rattle.protocol.specs.declared.Arguments.{Arguments}
 use Rattle.protocol.specs.Protocol.{argumentsAs}
 use Rattle.skips.specs.Skips.{stringRecord, stringSkipped, resultSkipped}

@@ -9,8 +9,8 @@ ghost use Rattle.judge.specs.Judged.{answerAs};
 ghost use Rattle.skips.specs.Skips.{stringSkipped, resultSkipped};
 use judge::Answer;
 use judge::Outcome;
-use judge::Skipped;
 use layouts::Record;
+use skip::Skipped;
 
 // The kind of skipped arguments that answer one string.
 const ONE_STRING: u64 = 2;

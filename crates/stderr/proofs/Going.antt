@@ -25,9 +25,9 @@ use Rattle.codes.specs.declared.stderr.StderrFound.the-variants.{Code, None}
 use Rattle.codes.specs.Stderr.{codeNumber, codeOf}
 use Rattle.codes.proofs.Messages.{has-number, no-code}
 use Rattle.table.specs.Table.{groupsAt}
-use Rattle.judge.specs.declared.Skipped.{Skipped}
-use Rattle.judge.specs.declared.Skipped.the-variants as S
-use Rattle.judge.specs.Judged.{skipped}
+use Rattle.skip.specs.declared.Skipped.{Skipped}
+use Rattle.skip.specs.declared.Skipped.the-variants as S
+use Rattle.skip.specs.Skipped.{skipped}
 use Rattle.stderr.specs.declared.Message.{Message}
 use Rattle.stderr.specs.declared.Message.the-variants.{NoCode, Terminal, Goes}
 use Rattle.stderr.specs.Loop.{said}

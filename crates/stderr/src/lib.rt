@@ -14,8 +14,8 @@ use codes::stderr::StderrCode;
 use codes::stderr::StderrFound;
 use judge::Answer;
 use judge::Outcome;
-use judge::Skipped;
 use layouts::Record;
+use skip::Skipped;
 use wire::Cursor;
 use wire::Peeked;
 
@@ -102,7 +102,7 @@ fn stderr_loop(s: &[u8]) -> Stopped
                     }
                     Message::Goes(run) => {
                         let body = at + 8;
-                        let k = judge::skip(s, body, 0, 0, run);
+                        let k = skip::skip(s, body, 0, 0, run);
                         match k {
                             Skipped::Refused { which, place } => {
                                 return Stopped::Refused { which, place };

@@ -263,7 +263,7 @@ fn group_step(s: &[u8], at: usize, flow: Flow) -> Step
     ensures falls { λ r. ⌜ Falls (now (s .entry)) (fuelAt (now (s .entry)) at flow) r ⌝ }
 {
     let i = flow.run;
-    let r = table::run_at(i);
+    let r = fields::run_at(i);
     let kind = r.kind;
     let start = r.start;
     if kind == table::END {
@@ -324,7 +324,7 @@ fn is_there(major: u16, minor: u8, gate: u8, bound: u8) -> bool
     if gate == table::ALWAYS {
         return true;
     }
-    let reached = table::at_least(major, minor, bound);
+    let reached = kinds::at_least(major, minor, bound);
     if gate == table::FROM {
         return reached;
     }
@@ -349,7 +349,7 @@ fn field_step(s: &[u8], at: usize, flow: Flow) -> Step
     ensures falls { λ r. ⌜ Falls (now (s .entry)) (fuelAt (now (s .entry)) at flow) r ⌝ }
 {
     let pc = flow.pc;
-    let f = table::field_at(pc);
+    let f = fields::field_at(pc);
     let kind = f.kind;
     if kind == table::END {
         return run_step(s, at, flow);

@@ -1,7 +1,7 @@
 use borrow.Author.Needs.{needs}
 use Rattle.handshake.proofs.negotiated.Statement.{statement}
 use Rattle.handshake.proofs.negotiated.Tie as tie
-use Rattle.codes.specs.Handshake.{versionOf}
+use Rattle.versions.specs.Handshake.{versionOf}
 use Rattle.handshake.proofs.Ways.{first-smaller, second-smaller}
 
 returns : tie.Need-returns

@@ -6,7 +6,7 @@ use Prim.Native.Nat.{ℕ, _/_}
 use mathlib.Core.List.{List, []}
 use lib.ListN.{length}
 use Rattle.layouts.specs.Primitive.{version}
-use Rattle.codes.specs.Handshake.{versionOf}
+use Rattle.versions.specs.Handshake.{versionOf}
 use Rattle.handshake.proofs.Whole.{as-numbers, DaemonRead, daemon-left, daemon-refused, daemon-fine}
 
 read : (c : tie.After-answer) → DaemonRead [] (now (c .before .before .before .before .before .before .before .before .before .before .before .before .before .args .daemon)) (length (now (c .before .before .before .before .before .before .before .before .before .before .before .before .before .args .entries)) / 2) (versionOf (c .before .before .before .before .negotiated .result)) (version (c .before .before .before .before .before .before .before .before .before .before .before .before .before .args .major) (c .before .before .before .before .before .before .before .before .before .before .before .before .before .args .minor)) (c .before .before .before .before .before .before .require-daemon-magic .result) (c .before .before .before .turn2 .result) (c .before .require-last .result)

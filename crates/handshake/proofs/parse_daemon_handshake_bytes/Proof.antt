@@ -6,7 +6,7 @@ use Prim.Native.Nat.{_/_}
 use lib.ListN.{length}
 use mathlib.Core.List.{[]}
 use Rattle.layouts.specs.Primitive.{version}
-use Rattle.codes.specs.Handshake.{versionOf}
+use Rattle.versions.specs.Handshake.{versionOf}
 use Rattle.output.specs.Numbers.{bytesOf}
 use Rattle.handshake.proofs.Whole.{as-bytes, DaemonRead, daemon-left, daemon-refused, daemon-fine}
 

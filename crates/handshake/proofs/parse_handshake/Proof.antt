@@ -5,7 +5,7 @@ use denote.Ref.{now}
 use Prim.Native.Nat.{ℕ, _/_}
 use mathlib.Core.List.{List}
 use lib.ListN.{length}
-use Rattle.codes.specs.Handshake.{versionOf}
+use Rattle.versions.specs.Handshake.{versionOf}
 use Rattle.handshake.proofs.Whole.{as-numbers, HandshakeRead, handshake-left, handshake-refused, handshake-fine}
 
 read : (c : tie.After-answer) → HandshakeRead (now (c .before .before .before .before .before .before .before .before .before .before .before .before .before .before .before .before .before .before .args .client)) (now (c .before .before .before .before .before .before .before .before .before .before .before .before .before .before .before .before .before .before .args .daemon)) (length (now (c .before .before .before .before .before .before .before .before .before .before .before .before .before .before .before .before .before .before .args .entries)) / 2) (versionOf (c .before .before .before .before .before .before .before .negotiated .result)) (c .before .before .before .before .before .before .before .before .before .before .require-magics .result) (c .before .before .before .before .before .before .turn3 .result) (c .before .before .before .before .turn5 .result) (c .before .before .require-last .result)

@@ -4,7 +4,7 @@ use Rattle.handshake.proofs.parse_handshake_bytes.Tie as tie
 use denote.Ref.{now}
 use Prim.Native.Nat.{_/_}
 use lib.ListN.{length}
-use Rattle.codes.specs.Handshake.{versionOf}
+use Rattle.versions.specs.Handshake.{versionOf}
 use Rattle.output.specs.Numbers.{bytesOf}
 use Rattle.handshake.proofs.Whole.{as-bytes, HandshakeRead, handshake-left, handshake-refused, handshake-fine}
 

@@ -2,7 +2,7 @@ use borrow.Author.Needs.{needs}
 use Rattle.handshake.proofs.versions.Statement.{statement}
 use Rattle.handshake.proofs.versions.Tie as tie
 use Rattle.layouts.specs.Primitive.{version}
-use Rattle.codes.specs.Handshake.{versionOf}
+use Rattle.versions.specs.Handshake.{versionOf}
 use Rattle.handshake.proofs.Ways.{bit-of, all-versions}
 
 returns : tie.Need-returns

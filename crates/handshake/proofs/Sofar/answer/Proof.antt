@@ -1,7 +1,7 @@
 use borrow.Author.Needs.{needs}
 use Rattle.handshake.proofs.Sofar.answer.Statement.{statement}
 use Rattle.handshake.proofs.Sofar.answer.Tie as tie
-use Rattle.codes.specs.Handshake.{versionOf}
+use Rattle.versions.specs.Handshake.{versionOf}
 use Rattle.handshake.proofs.Ways.{answer-refused, answer-fine}
 
 returns : tie.Need-returns

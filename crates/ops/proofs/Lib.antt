@@ -1,0 +1,2 @@
+-- `Unique` says that each contract determines its answer.
+pub mod Unique

@@ -1,0 +1,32 @@
+-- `ops::op_has_client_framed_data` meets its contract, by what a row of the table and its absence say.
+use Prim.Native.Nat.{ℕ}
+use mathlib.Core.Path.{_≡_, sym, _∙_, ap}
+use mathlib.Core.Bool.{Bool}
+use Rattle.layouts.specs.Primitive.{Result, ok, refused}
+use Rattle.layouts.specs.Calls.{hasFramed, opHasClientFramedData}
+use Rattle.table.specs.declared.Found.{Found}
+use Rattle.table.specs.declared.Found.the-variants as F
+use Rattle.table.specs.declared.Row.{Row}
+use Rattle.table.specs.Table.{rowFor}
+use Rattle.table.proofs.Rows.{found-says, unknown-refuses}
+use borrow.Author.Needs.{needs}
+use Rattle.ops.proofs.op_has_client_framed_data.Statement.{statement}
+use Rattle.ops.proofs.op_has_client_framed_data.Tie as tie
+
+not-known : (op n : ℕ) (x : Found) → n ≡ 9 → x ≡ rowFor op → x ≡ F.Unknown → refused n 0 0 ≡ opHasClientFramedData op
+not-known op n x h e q = ap {B = Result Bool} (λ (w : ℕ). refused w 0 0) h ∙ sym (unknown-refuses op x e q .sendsFrames)
+
+known : (op : ℕ) (x : Found) (r : Row) (t b : Bool) → x ≡ rowFor op → x ≡ F.Row r → t ≡ hasFramed op → t ≡ b → ok b ≡ opHasClientFramedData op
+known op x r t b e q f g = ap ok (sym g ∙ f) ∙ sym (found-says op x r e q .sendsFrames)
+
+pub op-has-client-framed-data-spec : {M : Type 1} → statement M
+op-has-client-framed-data-spec =
+    tie.close
+    (tie.spec
+    (λ c κs. search needs)
+    (λ c. search needs)
+    (λ c. search needs)
+    (λ c κs. search needs)
+    (λ c. search known)
+    (λ c. search not-known)
+    (λ c. search known))
