@@ -1,0 +1,194 @@
+//! The library's calls as they are: room is lent, nothing is allocated, and answers are numbers and entries.
+//!
+//! Lent room for entries is bytes, [`ENTRY`] for each slot. A refusal leaves it as it was, and a success writes only what the answer reports.
+//!
+//! This is the one module with `unsafe`. Each call is sound for the same reasons:
+//! - A slice's pointer goes with its own length, so what the library reads and writes through it is that slice. An empty slice's pointer may dangle; the
+//!   library takes any pointer with length 0.
+//! - The library reads what is shared and writes only what is lent by `&mut`; by Rust's borrowing no lent slice overlaps another one.
+//! - It is proved to end without a fault for every content, length and number, and keeps no pointer.
+//! - The declarations are those of `include/lintelow.h`.
+use crate::answer::{Answer, Block, Refusal};
+use crate::types::Version;
+
+pub use crate::answer::ENTRY;
+
+extern "C" {
+    fn lintelow_read_op_args(
+        op: u64,
+        major: u16,
+        minor: u8,
+        s: *const u8,
+        s_len: usize,
+        entries: *mut u8,
+        entries_len: usize,
+        payload: *mut u8,
+        payload_len: usize,
+        block: *mut u8,
+        block_len: usize,
+    ) -> u64;
+    fn lintelow_read_daemon_result(
+        op: u64,
+        major: u16,
+        minor: u8,
+        s: *const u8,
+        s_len: usize,
+        entries: *mut u8,
+        entries_len: usize,
+        payload: *mut u8,
+        payload_len: usize,
+        block: *mut u8,
+        block_len: usize,
+    ) -> u64;
+    fn lintelow_skip_op_args(op: u64, major: u16, minor: u8, s: *const u8, s_len: usize, block: *mut u8, block_len: usize) -> u64;
+    fn lintelow_skip_daemon_result(op: u64, major: u16, minor: u8, s: *const u8, s_len: usize, block: *mut u8, block_len: usize) -> u64;
+    fn lintelow_read_stderr_loop(s: *const u8, s_len: usize, block: *mut u8, block_len: usize) -> u64;
+    fn lintelow_read_stderr_with_error(s: *const u8, s_len: usize, entries: *mut u8, entries_len: usize, block: *mut u8, block_len: usize) -> u64;
+    fn lintelow_parse_handshake(
+        client: *const u8,
+        client_len: usize,
+        daemon: *const u8,
+        daemon_len: usize,
+        entries: *mut u8,
+        entries_len: usize,
+        block: *mut u8,
+        block_len: usize,
+    ) -> u64;
+    fn lintelow_parse_daemon_handshake(
+        major: u16,
+        minor: u8,
+        daemon: *const u8,
+        daemon_len: usize,
+        entries: *mut u8,
+        entries_len: usize,
+        block: *mut u8,
+        block_len: usize,
+    ) -> u64;
+}
+
+/// The arguments of an operation, from the client's stream.
+pub fn read_op_args<'r>(op: u64, version: Version, s: &[u8], entries: &'r mut [u8], payload: &'r mut [u8]) -> Result<Answer<'r>, Refusal> {
+    let Version { major, minor } = version;
+    let mut block = Block::new();
+    // SAFETY: as said above.
+    unsafe {
+        lintelow_read_op_args(
+            op,
+            major,
+            minor,
+            s.as_ptr(),
+            s.len(),
+            entries.as_mut_ptr(),
+            entries.len(),
+            payload.as_mut_ptr(),
+            payload.len(),
+            block.0.as_mut_ptr(),
+            Block::LENGTH,
+        );
+    }
+    block.answer(entries, payload)
+}
+
+/// The reply to an operation, from the daemon's stream.
+pub fn read_daemon_result<'r>(op: u64, version: Version, s: &[u8], entries: &'r mut [u8], payload: &'r mut [u8]) -> Result<Answer<'r>, Refusal> {
+    let Version { major, minor } = version;
+    let mut block = Block::new();
+    // SAFETY: as said above.
+    unsafe {
+        lintelow_read_daemon_result(
+            op,
+            major,
+            minor,
+            s.as_ptr(),
+            s.len(),
+            entries.as_mut_ptr(),
+            entries.len(),
+            payload.as_mut_ptr(),
+            payload.len(),
+            block.0.as_mut_ptr(),
+            Block::LENGTH,
+        );
+    }
+    block.answer(entries, payload)
+}
+
+/// The arguments of an operation passed over, up to framed data. Of kind 2 the string is the answer's own entry.
+pub fn skip_op_args(op: u64, version: Version, s: &[u8]) -> Result<Answer<'static>, Refusal> {
+    let Version { major, minor } = version;
+    let mut block = Block::new();
+    // SAFETY: as said above.
+    unsafe {
+        lintelow_skip_op_args(op, major, minor, s.as_ptr(), s.len(), block.0.as_mut_ptr(), Block::LENGTH);
+    }
+    block.answer(&[], &[])
+}
+
+/// The reply to an operation passed over.
+pub fn skip_daemon_result(op: u64, version: Version, s: &[u8]) -> Result<Answer<'static>, Refusal> {
+    let Version { major, minor } = version;
+    let mut block = Block::new();
+    // SAFETY: as said above.
+    unsafe {
+        lintelow_skip_daemon_result(op, major, minor, s.as_ptr(), s.len(), block.0.as_mut_ptr(), Block::LENGTH);
+    }
+    block.answer(&[], &[])
+}
+
+/// The daemon's messages up to Last, Error or what is no message.
+pub fn read_stderr_loop(s: &[u8]) -> Result<Answer<'static>, Refusal> {
+    let mut block = Block::new();
+    // SAFETY: as said above.
+    unsafe {
+        lintelow_read_stderr_loop(s.as_ptr(), s.len(), block.0.as_mut_ptr(), Block::LENGTH);
+    }
+    block.answer(&[], &[])
+}
+
+/// The same, and behind Error its block.
+pub fn read_stderr_with_error<'r>(s: &[u8], entries: &'r mut [u8]) -> Result<Answer<'r>, Refusal> {
+    let mut block = Block::new();
+    // SAFETY: as said above.
+    unsafe {
+        lintelow_read_stderr_with_error(s.as_ptr(), s.len(), entries.as_mut_ptr(), entries.len(), block.0.as_mut_ptr(), Block::LENGTH);
+    }
+    block.answer(entries, &[])
+}
+
+/// Both sides of a handshake. Entries: the client's features, of its stream; the daemon's features and its version, of the daemon's.
+pub fn parse_handshake<'r>(client: &[u8], daemon: &[u8], entries: &'r mut [u8]) -> Result<Answer<'r>, Refusal> {
+    let mut block = Block::new();
+    // SAFETY: as said above.
+    unsafe {
+        lintelow_parse_handshake(
+            client.as_ptr(),
+            client.len(),
+            daemon.as_ptr(),
+            daemon.len(),
+            entries.as_mut_ptr(),
+            entries.len(),
+            block.0.as_mut_ptr(),
+            Block::LENGTH,
+        );
+    }
+    block.answer(entries, &[])
+}
+
+/// The daemon's side of a handshake alone, with the version that the client has said.
+pub fn parse_daemon_handshake<'r>(client: Version, daemon: &[u8], entries: &'r mut [u8]) -> Result<Answer<'r>, Refusal> {
+    let Version { major, minor } = client;
+    let mut block = Block::new();
+    // SAFETY: as said above.
+    unsafe {
+        lintelow_parse_daemon_handshake(
+            major,
+            minor,
+            daemon.as_ptr(),
+            daemon.len(),
+            entries.as_mut_ptr(),
+            entries.len(),
+            block.0.as_mut_ptr(),
+            Block::LENGTH,
+        );
+    }
+    block.answer(entries, &[])
+}
