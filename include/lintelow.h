@@ -1,10 +1,46 @@
-/* The C boundary of Lintelow: crates/lintelow, built by `rt staticlib lintelow`.
+/* Lintelow's calls for C and C++: the functions of crates/lintelow, which `rt staticlib lintelow` puts into target/staticlib/liblintelow.a.
  *
- * A slice is a pointer and a length. An entry is 16 bytes, start and then length, little-endian: n bytes of entries give n / 16 slots.
+ * SLICES. A slice is a pointer and a length. Any pointer goes with length 0, the null pointer too. What is not const is lent: slices that are lent in one
+ * call must not overlap each other, nor a slice that the call reads. No call keeps a pointer, allocates, or has state.
  *
- * A call returns 0 or the refusal's number, and writes its answer into the first 200 bytes of the block, 25 little-endian numbers: number, place,
- * stream, kind, end, end2, entries reported, payload length, twelve numbers, three counts, and two numbers 0. On a refusal all but the first three are
- * 0, and entries and payload are as they were. A block shorter than 200 bytes: 10, and nothing at all is written. */
+ * STREAMS. A reader takes the part of a stream that starts where the last call ended; places and ends count from that start. Each stream, operation
+ * number, version and amount of room is an input like any other.
+ *
+ * ENTRIES. A string that is kept is answered as an entry, where its contents stand in the stream: 16 bytes, start and then length, little-endian. n bytes
+ * of entries are n / 16 slots, filled in reading order. The contents are text by RFC 3629.
+ *
+ * PAYLOAD. The bytes of framed data, joined.
+ *
+ * THE ANSWER. A call returns 0, or the number of its refusal, and writes its answer into the first 200 bytes of the block: 25 little-endian numbers of
+ * eight bytes.
+ *
+ *     0      number of the refusal, 0 for success
+ *     1, 2   its place; its stream: 1 for the daemon's stream of a handshake, else 0
+ *     3      kind
+ *     4, 5   end; end of the daemon's stream of a handshake
+ *     6, 7   how many entries; length of the payload
+ *     8-19   twelve numbers, 0 to 11
+ *     20-22  three counts, 0 to 2
+ *     23, 24 0, kept for later
+ *
+ * A refusal leaves all but the first three 0, and entries and payload as they were. A success writes the entries and the payload that it reports and
+ * leaves what lies beyond as it was. Bytes of the block beyond 200 stay. A block shorter than 200 bytes: the call returns 10, and nothing at all is
+ * written.
+ *
+ * REFUSALS, and their place.
+ *
+ *     1   cut short: a number, contents, padding or chunk needs more bytes than remain    start of that piece
+ *     2   too long: a length above 268435456                                              the length
+ *     3   bad text: a string isn't RFC 3629 text                                          its contents
+ *     4   no entry room: a kept string has no slot                                        its length
+ *     5   no payload room: a chunk doesn't fit in what is left                            its length
+ *     6   magic of the client                                                             0
+ *     7   magic of the daemon                                                             0
+ *     8   not Last: the handshake's final number differs                                  that number
+ *     9   unknown operation                                                               0
+ *     10  output full: the block is too short                                             0
+ *
+ * Pieces are judged in the order of the stream, and nothing is written before all are judged. */
 #ifndef LINTELOW_H
 #define LINTELOW_H
 
@@ -15,26 +51,86 @@
 extern "C" {
 #endif
 
+/* Bytes of a block, and of an entry. */
 #define LINTELOW_BLOCK 200
+#define LINTELOW_ENTRY 16
 
+/* The arguments of operation `op`, read from the client's stream behind the operation's number, at version major.minor. Refusals 1, 2, 3, 4, 5, 9, 10.
+ *
+ *     kind                            entries              numbers                              counts
+ *     0  None, nothing was consumed
+ *     1  SinglePath                   path
+ *     2  SingleString                 value
+ *     3  PathSet                      paths                                                     paths
+ *     4  PathSetFlag                  paths                substitute                           paths
+ *     5  PathSetMode                  paths                mode                                 paths
+ *     6  NoArgs
+ *     7  SetOptions                   name, value, ..      the twelve, in the stream's order    pairs
+ *     8  CollectGarbage               paths                action, ignore liveness, max freed   paths
+ *     9  VerifyStore                                       check contents, repair
+ *     10 AddPermRoot                  path, gc root
+ *     11 AddSignatures                path, signatures                                          signatures
+ *     12 AddTextToStore               suffix, text, refs                                        refs
+ *     13 AddToStore, payload          name, cam, refs      repair                               refs
+ *     14 AddMultipleToStore, payload                       repair, don't check
+ *     15 AddBuildLog, payload         path
+ *     16 RegisterDrvOutput            value
+ *     17 QueryRealisation             value
+ *     18 QuerySubstitutablePathInfo   path
+ *     19 QuerySubstitutablePathInfos  paths                                                     paths
+ *
+ * A number that the version lacks is 0, and a flag 0 or 1. */
 uint64_t lintelow_read_op_args(uint64_t op, uint16_t major, uint8_t minor, const uint8_t *s, size_t s_len, uint8_t *entries, size_t entries_len,
                                uint8_t *payload, size_t payload_len, uint8_t *block, size_t block_len);
 
+/* The same arguments passed over, up to framed data. No room is lent. Refusals 1, 2, 3 (of the string that is answered), 9, 10.
+ *
+ *     0 none, nothing was consumed; 1 the empty text; 2 one string: start and length are numbers 1 and 2, and one entry is reported;
+ *     3 paths, 4 overrides: how many is number 0 */
+uint64_t lintelow_skip_op_args(uint64_t op, uint16_t major, uint8_t minor, const uint8_t *s, size_t s_len, uint8_t *block, size_t block_len);
+
+/* The daemon's reply to operation `op`, read from behind Last. Refusals 1, 2, 3, 4, 5, 9, 10.
+ *
+ *     kind                        entries                                   numbers                          counts
+ *     0  None
+ *     1  U64                                                                the number
+ *     2  Str                      the string
+ *     3  PathInfo                 deriver, hash, references, signatures,    registration time, nar size,     references, signatures
+ *                                 ca                                        ultimate
+ *     4  PathInfo below 1.16      deriver, hash, references                 registration time, nar size      references
+ *     5  no PathInfo
+ *     6  StringSet                the strings                                                                strings
+ *     7  StringMap                name, value, ..                                                            pairs
+ *     8  CollectGarbage                                                     bytes freed
+ *     9  SubstitutablePathInfo    deriver, references                       download size, nar size          references
+ *     10 no SubstitutablePathInfo
+ *     11 Missing                  will build, will substitute, unknown      download size, nar size          of each of the three
+ *     12 Framed, payload
+ *
+ * The map of operation 30 has path and deriver for name and value. */
 uint64_t lintelow_read_daemon_result(uint64_t op, uint16_t major, uint8_t minor, const uint8_t *s, size_t s_len, uint8_t *entries, size_t entries_len,
                                      uint8_t *payload, size_t payload_len, uint8_t *block, size_t block_len);
 
-/* No room is lent: of kind 2, one string, start and length are numbers 1 and 2 of the twelve. Number 0 is the count of kinds 3 and 4. */
-uint64_t lintelow_skip_op_args(uint64_t op, uint16_t major, uint8_t minor, const uint8_t *s, size_t s_len, uint8_t *block, size_t block_len);
-
+/* The same reply passed over, with no look at contents: kind 0 and the end. Refusals 1, 2, 9, 10. */
 uint64_t lintelow_skip_daemon_result(uint64_t op, uint16_t major, uint8_t minor, const uint8_t *s, size_t s_len, uint8_t *block, size_t block_len);
 
+/* The daemon's messages, passed over up to Last or Error, or before the first number that is no message. Kind 0; numbers: how many, with the last one;
+ * its code, 0x616c7473 (Last) or 0x63787470 (Error), or 0 for none. Refusals 1, 2, 10. */
 uint64_t lintelow_read_stderr_loop(const uint8_t *s, size_t s_len, uint8_t *block, size_t block_len);
 
+/* The same, and what follows Error. Entries then: type, name, message; number 2: level. Refusals 1, 2, 3, 4, 10. */
 uint64_t lintelow_read_stderr_with_error(const uint8_t *s, size_t s_len, uint8_t *entries, size_t entries_len, uint8_t *block, size_t block_len);
 
+/* Both sides of a handshake. Kind 0. Refusals 1, 2, 3, 4, 6, 7, 8, 10.
+ * Entries: the client's features, in its stream; the daemon's features and, where number 6 is 1, its version string, in the daemon's stream.
+ * Counts: the client's features, the daemon's.
+ * Numbers: major and minor of the client's version (0, 1), the daemon's (2, 3) and the negotiated one (4, 5); 1 if the version string is there (6);
+ * 1 if trust is there (7); trust (8). */
 uint64_t lintelow_parse_handshake(const uint8_t *client, size_t client_len, const uint8_t *daemon, size_t daemon_len, uint8_t *entries,
                                   size_t entries_len, uint8_t *block, size_t block_len);
 
+/* The daemon's side alone, with the version that the client said. The same answer, without features of the client; `end` is 0.
+ * Refusals 1, 2, 3, 4, 7, 8, 10. */
 uint64_t lintelow_parse_daemon_handshake(uint16_t major, uint8_t minor, const uint8_t *daemon, size_t daemon_len, uint8_t *entries, size_t entries_len,
                                          uint8_t *block, size_t block_len);
 

@@ -1,0 +1,28 @@
+//! Streams written out: numbers, strings, sets.
+
+pub fn numbers(list: &[u64]) -> Vec<u8> {
+    list.iter().flat_map(|n| n.to_le_bytes()).collect()
+}
+
+pub fn string(text: &str) -> Vec<u8> {
+    let mut bytes = numbers(&[text.len() as u64]);
+    bytes.extend(text.bytes());
+    bytes.resize(bytes.len().next_multiple_of(8), 0);
+    bytes
+}
+
+pub fn set(list: &[&str]) -> Vec<u8> {
+    let mut bytes = numbers(&[list.len() as u64]);
+    list.iter().for_each(|text| bytes.extend(string(text)));
+    bytes
+}
+
+pub fn framed(chunks: &[&[u8]]) -> Vec<u8> {
+    let mut bytes = Vec::new();
+    for chunk in chunks {
+        bytes.extend(numbers(&[chunk.len() as u64]));
+        bytes.extend(*chunk);
+    }
+    bytes.extend(numbers(&[0]));
+    bytes
+}

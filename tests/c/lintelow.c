@@ -1,0 +1,222 @@
+/* Calls each function of include/lintelow.h, from C and from C++: a success, a refusal, nothing at all (null pointers of length 0), and blocks that are a
+ * byte too short and a byte longer than needed. */
+#include "lintelow.h"
+
+#include <stdio.h>
+#include <string.h>
+
+#define FILL 0xa5
+#define LAST 0x616c7473
+#define ERROR 0x63787470
+#define CLIENT 0x6e697863
+#define DAEMON 0x6478696f
+
+enum { NUMBER, PLACE, STREAM, KIND, END, END2, ENTRIES, PAYLOAD, NUMBERS, COUNTS = 20, LATER = 23 };
+
+static int failures = 0;
+
+#define EXPECT(what, is, should_be) expect(__LINE__, what, is, should_be)
+
+static void expect(int line, const char *what, uint64_t is, uint64_t should_be) {
+    if (is != should_be) {
+        printf("line %d: %s is %llu and should be %llu\n", line, what, (unsigned long long)is, (unsigned long long)should_be);
+        failures++;
+    }
+}
+
+/* A stream that is put together. */
+static uint8_t s[512];
+static size_t s_len;
+
+static void number(uint64_t n) {
+    int i;
+    for (i = 0; i < 8; i++) s[s_len++] = (uint8_t)(n >> (8 * i));
+}
+
+static void string(const char *text) {
+    size_t length = strlen(text);
+    number(length);
+    memcpy(s + s_len, text, length);
+    memset(s + s_len + length, 0, 7);
+    s_len += (length + 7) / 8 * 8;
+}
+
+/* Room, with a byte more than a block needs. */
+static uint8_t entries[8 * LINTELOW_ENTRY], payload[16], block[LINTELOW_BLOCK + 1];
+
+static void lend(void) {
+    memset(entries, FILL, sizeof entries);
+    memset(payload, FILL, sizeof payload);
+    memset(block, FILL, sizeof block);
+}
+
+static uint64_t at(const uint8_t *bytes, size_t index) {
+    uint64_t n = 0;
+    int i;
+    for (i = 7; i >= 0; i--) n = n << 8 | bytes[8 * index + i];
+    return n;
+}
+
+static size_t filled(const uint8_t *bytes, size_t length) {
+    size_t n = 0;
+    while (n < length && bytes[length - 1 - n] == FILL) n++;
+    return n;
+}
+
+/* What every answer has: the number that was returned, the numbers kept for later, and the byte beyond the block as it was. */
+static void answered(int line, const char *call, uint64_t returned, uint64_t should_be) {
+    size_t i;
+    printf("%-34s %llu at %llu, kind %llu, end %llu\n", call, (unsigned long long)returned, (unsigned long long)at(block, PLACE),
+           (unsigned long long)at(block, KIND), (unsigned long long)at(block, END));
+    expect(line, call, returned, should_be);
+    expect(line, "the block's number", at(block, NUMBER), returned);
+    expect(line, "the byte beyond the block", block[LINTELOW_BLOCK], FILL);
+    for (i = returned ? KIND : LATER; i < 25; i++) expect(line, "a number that stays 0", at(block, i), 0);
+    if (returned) {
+        expect(line, "entries kept", filled(entries, sizeof entries), sizeof entries);
+        expect(line, "payload kept", filled(payload, sizeof payload), sizeof payload);
+    }
+}
+
+/* A call, with the longer block; then with one that is too short, where nothing is written. In CALL, `n` is the block's length. */
+#define CALLED(name, should_be, CALL)                                                        \
+    do {                                                                                     \
+        size_t n = LINTELOW_BLOCK - 1;                                                       \
+        lend();                                                                              \
+        expect(__LINE__, name ", a short block", CALL, 10);                                  \
+        expect(__LINE__, "a short block kept", filled(block, sizeof block), sizeof block);   \
+        expect(__LINE__, "entries kept", filled(entries, sizeof entries), sizeof entries);   \
+        expect(__LINE__, "payload kept", filled(payload, sizeof payload), sizeof payload);   \
+        n = sizeof block;                                                                    \
+        answered(__LINE__, name, CALL, should_be);                                           \
+    } while (0)
+
+static void arguments(void) {
+    s_len = 0; /* AddToStore: name, cam, refs, repair, two chunks */
+    string("name"), string("text:sha256"), number(1), string("/nix/store/x"), number(7);
+    number(2), memcpy(s + s_len, "ab", 2), s_len += 2;
+    number(1), s[s_len++] = 'c';
+    number(0);
+    CALLED("read_op_args", 0, lintelow_read_op_args(7, 1, 38, s, s_len, entries, sizeof entries, payload, sizeof payload, block, n));
+    EXPECT("kind", at(block, KIND), 13);
+    EXPECT("end", at(block, END), s_len);
+    EXPECT("entries", at(block, ENTRIES), 3);
+    EXPECT("payload", at(block, PAYLOAD), 3);
+    EXPECT("repair", at(block, NUMBERS), 1);
+    EXPECT("references", at(block, COUNTS), 1);
+    EXPECT("start of cam", at(entries, 2), 24);
+    EXPECT("length of cam", at(entries, 3), 11);
+    EXPECT("slots kept", filled(entries, sizeof entries), sizeof entries - 3 * LINTELOW_ENTRY);
+    EXPECT("payload's bytes", (uint64_t)memcmp(payload, "abc", 3), 0);
+    EXPECT("room kept", filled(payload, sizeof payload), sizeof payload - 3);
+    CALLED("read_op_args, 2 slots", 4, lintelow_read_op_args(7, 1, 38, s, s_len, entries, 47, payload, sizeof payload, block, n));
+    EXPECT("place", at(block, PLACE), 48);
+    CALLED("read_op_args, 2 bytes of room", 5, lintelow_read_op_args(7, 1, 38, s, s_len, entries, sizeof entries, payload, 2, block, n));
+    EXPECT("place", at(block, PLACE), s_len - 17);
+
+    CALLED("skip_op_args", 0, lintelow_skip_op_args(7, 1, 38, s, s_len, block, n));
+    EXPECT("kind", at(block, KIND), 2);
+    EXPECT("end", at(block, END), s_len - 27);
+    EXPECT("entries", at(block, ENTRIES), 1);
+    EXPECT("start", at(block, NUMBERS + 1), 8);
+    EXPECT("length", at(block, NUMBERS + 2), 4);
+    CALLED("skip_op_args, unknown", 9, lintelow_skip_op_args(0, 1, 38, s, s_len, block, n));
+
+    CALLED("read_op_args of nothing", 0, lintelow_read_op_args(13, 1, 38, NULL, 0, NULL, 0, NULL, 0, block, n));
+    EXPECT("kind", at(block, KIND), 6);
+    CALLED("skip_op_args of nothing", 0, lintelow_skip_op_args(13, 1, 38, NULL, 0, block, n));
+    EXPECT("kind", at(block, KIND), 1);
+}
+
+static void replies(void) {
+    s_len = 0; /* QueryMissing: three sets and two numbers */
+    number(1), string("a"), number(0), number(2), string("b"), string("c"), number(8), number(9);
+    CALLED("read_daemon_result", 0, lintelow_read_daemon_result(40, 1, 38, s, s_len, entries, sizeof entries, payload, sizeof payload, block, n));
+    EXPECT("kind", at(block, KIND), 11);
+    EXPECT("end", at(block, END), s_len);
+    EXPECT("entries", at(block, ENTRIES), 3);
+    EXPECT("will build", at(block, COUNTS), 1);
+    EXPECT("will substitute", at(block, COUNTS + 1), 0);
+    EXPECT("unknown", at(block, COUNTS + 2), 2);
+    EXPECT("download size", at(block, NUMBERS), 8);
+    EXPECT("nar size", at(block, NUMBERS + 1), 9);
+    CALLED("skip_daemon_result", 0, lintelow_skip_daemon_result(40, 1, 38, s, s_len, block, n));
+    EXPECT("end", at(block, END), s_len);
+
+    s[16] = 0xff;
+    CALLED("read_daemon_result, bad text", 3, lintelow_read_daemon_result(40, 1, 38, s, s_len, entries, sizeof entries, NULL, 0, block, n));
+    EXPECT("place", at(block, PLACE), 16);
+    CALLED("skip_daemon_result, bad text", 0, lintelow_skip_daemon_result(40, 1, 38, s, s_len, block, n));
+    CALLED("skip_daemon_result, cut short", 1, lintelow_skip_daemon_result(40, 1, 38, s, s_len - 1, block, n));
+    EXPECT("place", at(block, PLACE), s_len - 8);
+
+    CALLED("read_daemon_result of nothing", 0, lintelow_read_daemon_result(42, 1, 38, NULL, 0, NULL, 0, NULL, 0, block, n));
+    CALLED("skip_daemon_result of nothing", 0, lintelow_skip_daemon_result(42, 1, 38, NULL, 0, block, n));
+}
+
+static void messages(void) {
+    s_len = 0;
+    number(ERROR), string("Error"), number(1), string("name"), string("message"), number(0);
+    CALLED("read_stderr_loop", 0, lintelow_read_stderr_loop(s, s_len, block, n));
+    EXPECT("count", at(block, NUMBERS), 1);
+    EXPECT("terminal code", at(block, NUMBERS + 1), ERROR);
+    EXPECT("end", at(block, END), 8);
+    CALLED("read_stderr_with_error", 0, lintelow_read_stderr_with_error(s, s_len, entries, sizeof entries, block, n));
+    EXPECT("level", at(block, NUMBERS + 2), 1);
+    EXPECT("entries", at(block, ENTRIES), 3);
+    EXPECT("end", at(block, END), s_len);
+    EXPECT("length of message", at(entries, 5), 7);
+    CALLED("read_stderr_with_error, cut short", 1, lintelow_read_stderr_with_error(s, s_len - 8, entries, sizeof entries, block, n));
+    EXPECT("place", at(block, PLACE), s_len - 8);
+
+    CALLED("read_stderr_loop of nothing", 0, lintelow_read_stderr_loop(NULL, 0, block, n));
+    EXPECT("terminal code", at(block, NUMBERS + 1), 0);
+    CALLED("read_stderr_with_error of nothing", 0, lintelow_read_stderr_with_error(NULL, 0, NULL, 0, block, n));
+    s_len = 0;
+    number(0x6f6c6d67), number(268435457);
+    CALLED("read_stderr_loop, too long", 2, lintelow_read_stderr_loop(s, s_len, block, n));
+    EXPECT("place", at(block, PLACE), 8);
+}
+
+static void handshakes(void) {
+    const uint8_t *daemon;
+    size_t client_len, daemon_len;
+    s_len = 0;
+    number(CLIENT), number(0x126), number(1), string("one"), number(0), number(0);
+    client_len = s_len;
+    number(DAEMON), number(0x127), number(1), string("two"), string("2.99"), number(2), number(LAST);
+    daemon = s + client_len;
+    daemon_len = s_len - client_len;
+    CALLED("parse_handshake", 0, lintelow_parse_handshake(s, client_len, daemon, daemon_len, entries, sizeof entries, block, n));
+    EXPECT("end", at(block, END), client_len);
+    EXPECT("end2", at(block, END2), daemon_len);
+    EXPECT("entries", at(block, ENTRIES), 3);
+    EXPECT("negotiated major", at(block, NUMBERS + 4), 1);
+    EXPECT("negotiated minor", at(block, NUMBERS + 5), 38);
+    EXPECT("version string", at(block, NUMBERS + 6), 1);
+    EXPECT("trust is there", at(block, NUMBERS + 7), 1);
+    EXPECT("trust", at(block, NUMBERS + 8), 2);
+    EXPECT("length of the version string", at(entries, 5), 4);
+    CALLED("parse_daemon_handshake", 0, lintelow_parse_daemon_handshake(1, 38, daemon, daemon_len, entries, sizeof entries, block, n));
+    EXPECT("end", at(block, END), 0);
+    EXPECT("end2", at(block, END2), daemon_len);
+    EXPECT("entries", at(block, ENTRIES), 2);
+
+    CALLED("parse_handshake, sides turned", 6, lintelow_parse_handshake(daemon, daemon_len, s, client_len, entries, sizeof entries, block, n));
+    CALLED("parse_daemon_handshake, client's", 7, lintelow_parse_daemon_handshake(1, 38, s, client_len, entries, sizeof entries, block, n));
+    EXPECT("stream", at(block, STREAM), 1);
+    CALLED("parse_daemon_handshake, not Last", 8, lintelow_parse_daemon_handshake(1, 10, daemon, daemon_len, entries, sizeof entries, block, n));
+    EXPECT("place", at(block, PLACE), 16);
+
+    CALLED("parse_handshake of nothing", 1, lintelow_parse_handshake(NULL, 0, NULL, 0, NULL, 0, block, n));
+    CALLED("parse_daemon_handshake of nothing", 1, lintelow_parse_daemon_handshake(1, 38, NULL, 0, NULL, 0, block, n));
+}
+
+int main(void) {
+    arguments();
+    replies();
+    messages();
+    handshakes();
+    printf("%d failures\n", failures);
+    return failures != 0;
+}
