@@ -76,7 +76,7 @@ fn path_infos_by_nix_2_8() {
 }
 
 #[test]
-fn a_session_cut_anywhere_is_refused_or_read_to_the_same_end() {
+fn a_handshake_cut_anywhere_is_refused() {
     let (client, daemon) = streams("nix-2.26-build");
     let (info, client_end, daemon_end) = parse_handshake(&client, &daemon).unwrap();
     for length in 0..daemon_end {
