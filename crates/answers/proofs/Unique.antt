@@ -20,6 +20,10 @@ use Rattle.answers.proofs.yes_no.Reads as yes-no
 use Rattle.answers.proofs.yes_no.Kinds as yes-no-kinds
 use Rattle.answers.proofs.entry.Reads as entry
 use Rattle.answers.proofs.entry.Kinds as entry-kinds
+use Rattle.answers.proofs.framed.Reads as framed
+use Rattle.answers.proofs.framed.Kinds as framed-kinds
+use Rattle.answers.proofs.version.Reads as version
+use Rattle.answers.proofs.version.Kinds as version-kinds
 
 pub number-unique : (κs : Lfts 0) (a : Dens κs number-kinds.ps) (r r′ : Answer) (x x′ : AtExit (endedOf 0 number-kinds.ps number-kinds.r) κs)
     → number.Post κs a r x → number.Post κs a r′ x′ → r ≡ r′
@@ -52,3 +56,11 @@ yes-no-unique κs a r r′ x x′ p q = p ∙ sym q
 pub entry-unique : (κs : Lfts 0) (a : Dens κs entry-kinds.ps) (r r′ : Answer) (x x′ : AtExit (endedOf 0 entry-kinds.ps entry-kinds.r) κs)
     → entry.Post κs a r x → entry.Post κs a r′ x′ → r ≡ r′
 entry-unique κs a r r′ x x′ p q = p ∙ sym q
+
+pub framed-unique : (κs : Lfts 0) (a : Dens κs framed-kinds.ps) (r r′ : Answer) (x x′ : AtExit (endedOf 0 framed-kinds.ps framed-kinds.r) κs)
+    → framed.Post κs a r x → framed.Post κs a r′ x′ → r ≡ r′
+framed-unique κs a r r′ x x′ p q = p ∙ sym q
+
+pub version-unique : (κs : Lfts 0) (a : Dens κs version-kinds.ps) (r r′ : Answer) (x x′ : AtExit (endedOf 0 version-kinds.ps version-kinds.r) κs)
+    → version.Post κs a r x → version.Post κs a r′ x′ → r ≡ r′
+version-unique κs a r r′ x x′ p q = p ∙ sym q

@@ -4,12 +4,14 @@ use mathlib.Core.List.{_∷_}
 use mathlib.Core.Bool.{Bool, false}
 use lib.ListN.{replicate}
 use Rattle.layouts.specs.declared.Record.{Record}
-use Rattle.layouts.specs.Primitive.{pick, Result, ok, onward}
+use Rattle.layouts.specs.Primitive.{pick, Version, Result, ok, onward}
 use Rattle.layouts.specs.Pieces.{Num, value, short}
 use Rattle.layouts.specs.Record.{blank, withNumber, withPayload}
 use Rattle.layouts.specs.Judge.{Ended}
 use Rattle.layouts.specs.Calls.{Answer}
 use Rattle.pieces.specs.Pieces.{Span}
+use Rattle.ops.specs.declared.Framed.{Framed}
+use Rattle.ops.specs.Ops as Ops
 
 abbrev pub answer : (kind ends : ℕ) → Record → Answer
 answer kind ends found = record { kind = kind; ends = ends; ends2 = 0; found = found }
@@ -39,3 +41,10 @@ written o = onward o (λ n. ok (answer 0 n (withPayload blank n)))
 -- kind 1 for yes, 0 for no
 abbrev pub yesNo : Result Bool → Result Answer
 yesNo o = onward o (λ b. ok (answer (pick b 1 0) 0 blank))
+
+abbrev pub framedSaid : Framed → Result Bool
+framedSaid f = Ops.meaning f
+
+-- major and minor are numbers 0 and 1
+abbrev pub versionTold : Version → Result Answer
+versionTold v = ok (answer 0 0 (numbered (v .major) (v .minor) 0 0 0))

@@ -4,11 +4,14 @@ ghost use Rattle.layouts.specs.Primitive.{ok, pick};
 ghost use Rattle.judge.specs.Judged.{answerAs};
 ghost use Rattle.wire.specs.Answers.{numberRead, totalRead, peeked, spanned, skippedTo};
 ghost use Rattle.output.specs.Answer.{meaning};
-ghost use Rattle.answers.specs.Answers.{answer, numbered, ended, passedTo, stringRead, peekedAt, written, yesNo};
+ghost use Rattle.versions.specs.Handshake.{versionOf};
+ghost use Rattle.answers.specs.Answers.{answer, numbered, ended, passedTo, stringRead, peekedAt, written, yesNo, framedSaid, versionTold};
 use judge::Answer;
 use judge::Outcome;
 use layouts::Record;
+use ops::Framed;
 use output::Written;
+use versions::handshake::ProtocolVersion;
 use wire::Peeked;
 use wire::Read;
 use wire::Skipped;
@@ -106,4 +109,20 @@ pub fn entry(start: u64, len: u64) -> Answer
     ensures { λ a. ⌜ a ≡ answerAs (ok (answer 0 0 (numbered 0 start len 1 0))) ⌝ }
 {
     fine(0, 0, 0, start, len, 1, 0)
+}
+
+pub fn framed(f: Framed) -> Answer
+    ensures { λ a. ⌜ a ≡ answerAs (yesNo (framedSaid f)) ⌝ }
+{
+    match f {
+        Framed::Yes => yes_no(true),
+        Framed::No => yes_no(false),
+        Framed::Refused { which, place } => judge::refused_answer(which, place),
+    }
+}
+
+pub fn version(v: ProtocolVersion) -> Answer
+    ensures { λ a. ⌜ a ≡ answerAs (versionTold (versionOf v)) ⌝ }
+{
+    fine(0, 0, v.major as u64, v.minor as u64, 0, 0, 0)
 }

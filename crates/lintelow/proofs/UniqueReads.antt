@@ -29,6 +29,10 @@ use Rattle.lintelow.proofs.reads.lintelow_entry.Reads as entry
 use Rattle.lintelow.proofs.reads.lintelow_entry.Kinds as entry-kinds
 use Rattle.lintelow.proofs.reads.lintelow_extract_store_path.Reads as extract-store-path
 use Rattle.lintelow.proofs.reads.lintelow_extract_store_path.Kinds as extract-store-path-kinds
+use Rattle.lintelow.proofs.reads.lintelow_op_has_client_framed_data.Reads as op-has-client-framed-data
+use Rattle.lintelow.proofs.reads.lintelow_op_has_client_framed_data.Kinds as op-has-client-framed-data-kinds
+use Rattle.lintelow.proofs.reads.lintelow_version_from_wire.Reads as version-from-wire
+use Rattle.lintelow.proofs.reads.lintelow_version_from_wire.Kinds as version-from-wire-kinds
 
 pub read-u64-unique : (κs : Lfts 2) (a : Dens κs read-u64-kinds.ps) (r r′ : ℕ) (x x′ : AtExit (endedOf 2 read-u64-kinds.ps read-u64-kinds.r) κs)
     → read-u64.Post κs a r x → read-u64.Post κs a r′ x′ → (r ≡ r′) × (now (x .1 .1 .0) ≡ now (x′ .1 .1 .0))
@@ -77,3 +81,11 @@ entry-unique κs a r r′ x x′ p q = (p .0 ∙ sym (q .0), p .1 ∙ sym (q .1)
 pub extract-store-path-unique : (κs : Lfts 2) (a : Dens κs extract-store-path-kinds.ps) (r r′ : ℕ) (x x′ : AtExit (endedOf 2 extract-store-path-kinds.ps extract-store-path-kinds.r) κs)
     → extract-store-path.Post κs a r x → extract-store-path.Post κs a r′ x′ → (r ≡ r′) × (now (x .1 .0) ≡ now (x′ .1 .0))
 extract-store-path-unique κs a r r′ x x′ p q = (p .0 ∙ sym (q .0), p .1 ∙ sym (q .1))
+
+pub op-has-client-framed-data-unique : (κs : Lfts 1) (a : Dens κs op-has-client-framed-data-kinds.ps) (r r′ : ℕ) (x x′ : AtExit (endedOf 1 op-has-client-framed-data-kinds.ps op-has-client-framed-data-kinds.r) κs)
+    → op-has-client-framed-data.Post κs a r x → op-has-client-framed-data.Post κs a r′ x′ → (r ≡ r′) × (now (x .1 .0) ≡ now (x′ .1 .0))
+op-has-client-framed-data-unique κs a r r′ x x′ p q = (p .0 ∙ sym (q .0), p .1 ∙ sym (q .1))
+
+pub version-from-wire-unique : (κs : Lfts 1) (a : Dens κs version-from-wire-kinds.ps) (r r′ : ℕ) (x x′ : AtExit (endedOf 1 version-from-wire-kinds.ps version-from-wire-kinds.r) κs)
+    → version-from-wire.Post κs a r x → version-from-wire.Post κs a r′ x′ → (r ≡ r′) × (now (x .1 .0) ≡ now (x′ .1 .0))
+version-from-wire-unique κs a r r′ x x′ p q = (p .0 ∙ sym (q .0), p .1 ∙ sym (q .1))

@@ -2,18 +2,19 @@
 ghost use mathlib.Core.Path.{_≡_};
 ghost use Prim.Native.Nat.{_/_};
 ghost use lib.ListN.{length};
-ghost use Rattle.layouts.specs.Primitive.{ok};
+ghost use Rattle.layouts.specs.Primitive.{ok, fromWire};
 ghost use Rattle.layouts.specs.Shape.{asCount, kept, set, framed};
 ghost use Rattle.layouts.specs.Pieces.{run};
 ghost use Rattle.layouts.specs.Judge.{entriesOf, payloadOf, lentAfter};
-ghost use Rattle.layouts.specs.Calls.{field, readNumber, readU32, peekNumber, skipString, readStringSet, skipStringSet, readFramed, skipFramed};
+ghost use Rattle.layouts.specs.Calls.{field, readNumber, readU32, peekNumber, skipString, readStringSet, skipStringSet, readFramed, skipFramed, opHasClientFramedData};
 ghost use Rattle.layouts.specs.Writers.{isStorePath};
 ghost use Rattle.output.specs.Numbers.{bytesOf};
 ghost use Rattle.judge.specs.Judged.{answerAs};
 ghost use Rattle.wire.specs.Answers.{readBytes, readText};
-ghost use Rattle.answers.specs.Answers.{ended, passedTo, stringRead, peekedAt, yesNo};
+ghost use Rattle.answers.specs.Answers.{ended, passedTo, stringRead, peekedAt, yesNo, versionTold};
 ghost use Rattle.entry_bytes.specs.Entries.{entriesIn, entryRead};
 ghost use Rattle.block.specs.Block.{guarded, numberOf, blockAfter};
+use versions::handshake::ProtocolVersion;
 use wire::Cursor;
 
 #[no_mangle]
@@ -154,4 +155,22 @@ pub extern "C" fn lintelow_extract_store_path(c: &[u8], block: &mut [u8]) -> u64
 {
     let b = views::extract_store_path(c);
     block::put(block, answers::yes_no(b))
+}
+
+#[no_mangle]
+pub extern "C" fn lintelow_op_has_client_framed_data(op: u64, block: &mut [u8]) -> u64
+    ensures number { λ r. ⌜ r ≡ numberOf (now (block .entry)) (answerAs (yesNo (opHasClientFramedData op))) ⌝ }
+    ensures block { λ r. ⌜ now (block .exit) ≡ blockAfter (now (block .entry)) (answerAs (yesNo (opHasClientFramedData op))) ⌝ }
+{
+    let f = ops::op_has_client_framed_data(op);
+    block::put(block, answers::framed(f))
+}
+
+#[no_mangle]
+pub extern "C" fn lintelow_version_from_wire(wire: u64, block: &mut [u8]) -> u64
+    ensures number { λ r. ⌜ r ≡ numberOf (now (block .entry)) (answerAs (versionTold (fromWire wire))) ⌝ }
+    ensures block { λ r. ⌜ now (block .exit) ≡ blockAfter (now (block .entry)) (answerAs (versionTold (fromWire wire))) ⌝ }
+{
+    let v = ProtocolVersion::from_wire(wire);
+    block::put(block, answers::version(v))
 }

@@ -1,0 +1,25 @@
+-- `lintelow::reads::lintelow_op_has_client_framed_data` meets its contract: the answer of the call is put.
+use borrow.Author.Needs.{needs}
+use Rattle.lintelow.proofs.reads.lintelow_op_has_client_framed_data.Statement.{statement}
+use Rattle.lintelow.proofs.reads.lintelow_op_has_client_framed_data.Tie as tie
+use mathlib.Core.Path.{_∙_, ap}
+use mathlib.Core.Bool.{Bool}
+use denote.Ref.{now}
+use Rattle.layouts.specs.Primitive.{Result}
+use Rattle.layouts.specs.Calls.{opHasClientFramedData}
+use Rattle.judge.specs.Judged.{answerAs}
+use Rattle.answers.specs.Answers.{yesNo}
+use Rattle.block.proofs.Guard.{told-number, told-block}
+
+returns : tie.Need-returns
+returns c = let e = c .before .before .before .framed .ensures ∙ ap (λ (x : Result Bool). answerAs (yesNo x)) (c .before .before .before .before .before .op-has-client-framed-data .ensures) in (told-number (now (c .before .before .before .before .before .before .before .args .block)) (answerAs (yesNo (opHasClientFramedData (c .before .before .before .before .before .before .before .args .op)))) _ _ e (c .before .before .put .ensures .0), told-block (now (c .before .before .before .before .before .before .before .args .block)) (answerAs (yesNo (opHasClientFramedData (c .before .before .before .before .before .before .before .args .op)))) _ _ e (c .before .before .put .ensures .1))
+
+pub lintelow-op-has-client-framed-data-spec : {M : Type 1} → statement M
+lintelow-op-has-client-framed-data-spec =
+    tie.close
+    (tie.spec
+    (λ c κs. search needs)
+    (λ c κs. search needs)
+    (λ c κs. search needs)
+    (λ c. search needs)
+    returns)
