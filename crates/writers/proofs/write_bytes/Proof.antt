@@ -14,7 +14,7 @@ returns c =
 returns-2 : tie.Need-returns-2
 returns-2 c =
     let a = c .before .before .before .before .before .before .before .before .args in
-    done (stringBytes (a .c .now)) _ _ _ (c .before .before .before .before .before .string-length .ensures) (c .before .before .before .before .if1 .left) (c .before .before .put-string .ensures)
+    done (stringBytes (a .c .now)) (a .out .now) _ _ (c .before .before .before .before .before .string-length .ensures) (c .before .before .before .before .if1 .left) (c .before .before .put-string .ensures)
 
 pub write-bytes-spec : {M : Type 1} → statement M
 write-bytes-spec =
