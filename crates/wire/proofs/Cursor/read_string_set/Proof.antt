@@ -20,6 +20,6 @@ read-string-set-spec =
     (λ c. search needs)
     (λ c. set-cut (now (c .before .before .before .before .before .args .s)) (c .before .before .before .before .before .args .self .at) _ (c .before .before .number-at .ensures) (c .enum-told .given .1) _ _ _)
     (λ c. search needs)
-    (λ c. set-refused (now (c .before .before .before .before .before .before .before .before .before .before .before .before .before .args .s)) (c .before .before .before .before .before .before .before .before .before .before .before .before .before .args .self .at) _ (c .before .before .before .before .before .before .before .before .before .before .number-at .ensures) _ (c .before .before .before .before .before .before .before .before .kept .given .1) _ (now (c .before .before .before .before .before .before .before .before .before .before .before .before .before .args .entries)) (c .before .before .before .before .before .read-strings .ensures .0) _ (c .before .before .before .before .before .read-strings .ensures .1) _ _ (c .before .which .given .1))
+    (λ c. set-refused (now (c .before .before .before .before .before .before .before .before .before .before .before .before .before .args .s)) (c .before .before .before .before .before .before .before .before .before .before .before .before .before .args .self .at) _ (c .before .before .before .before .before .before .before .before .before .before .number-at .ensures) _ (c .before .before .before .before .before .before .before .before .kept .given .1) (c .before .before .before .before .before .read-strings .result) (now (c .before .before .before .before .before .before .before .before .before .before .before .before .before .args .entries)) (c .before .before .before .before .before .read-strings .ensures .0) _ (c .before .before .before .before .before .read-strings .ensures .1) _ _ (c .before .which .given .1))
     (λ c. search needs)
-    (λ c. set-read (now (c .before .before .before .before .before .before .before .before .before .before .before .before .before .args .s)) (c .before .before .before .before .before .before .before .before .before .before .before .before .before .args .self .at) _ (c .before .before .before .before .before .before .before .before .before .before .number-at .ensures) _ (c .before .before .before .before .before .before .before .before .kept .given .1) _ (now (c .before .before .before .before .before .before .before .before .before .before .before .before .before .args .entries)) (c .before .before .before .before .before .read-strings .ensures .0) _ (c .before .before .before .before .before .read-strings .ensures .1) _ (c .before .next .given .1)))
+    (λ c. set-read (now (c .before .before .before .before .before .before .before .before .before .before .before .before .before .args .s)) (c .before .before .before .before .before .before .before .before .before .before .before .before .before .args .self .at) _ (c .before .before .before .before .before .before .before .before .before .before .number-at .ensures) _ (c .before .before .before .before .before .before .before .before .kept .given .1) (c .before .before .before .before .before .read-strings .result) (now (c .before .before .before .before .before .before .before .before .before .before .before .before .before .args .entries)) (c .before .before .before .before .before .read-strings .ensures .0) _ (c .before .before .before .before .before .read-strings .ensures .1) _ (c .before .next .given .1)))

@@ -3,6 +3,7 @@ use borrow.Author.Needs.{needs}
 use Rattle.wire.proofs.Cursor.skip_framed.Statement.{statement}
 use Rattle.wire.proofs.Cursor.skip_framed.Tie as tie
 use mathlib.Core.Path.{_∙_}
+use denote.Ref.{now}
 use Rattle.wire.proofs.Frames.{framed-skip}
 
 pub skip-framed-spec : {M : Type 1} → statement M
@@ -11,4 +12,4 @@ skip-framed-spec =
     (tie.spec
     (λ c κs. search needs)
     (λ c κs. search needs)
-    (λ c. framed-skip _ _ (c .after-frames .result) (c .after-frames .ensures ∙ c .before .frames-at .ensures)))
+    (λ c. framed-skip (now (c .before .before .before .args .s)) (c .before .before .before .args .self .at) (c .after-frames .result) (c .after-frames .ensures ∙ c .before .frames-at .ensures)))
