@@ -1,11 +1,11 @@
 -- How code goes over a list: a step past one character or past ASCII (`Step`), and what is known where it stands (`Upto`).
-use Prim.Native.Nat.{ℕ, _+_, _-_, _≤_}
+use Prim.Native.Nat.{ℕ, _+_, _-_, _≤_, _<_}
 use mathlib.Core.Path.{_≡_, refl, sym, _∙_}
 use mathlib.Core.List.{List, [], _∷_, _++_}
-use mathlib.Core.Bool.{Bool, true}
+use mathlib.Core.Bool.{Bool, true, false, _&&_, false≢true}
 use native.Mathlib.Omega.{arith}
 use lib.ListN.{length, take, drop, length-drop, take-append-drop}
-use lib.Seq.{drop-drop, take-all, length-take-le}
+use lib.Seq.{drop-drop, take-add, take-all, length-take-le}
 use lib.Dec.{T, leb, leb→le}
 use borrow.Author.Tests.{le-leb}
 use Rattle.text.specs.Prefix.{charLength, goodPrefix, allPlain, PlainFor, Step}
@@ -27,13 +27,39 @@ plain-run (a ∷ p) t h =
     let e : charLength (a ∷ p ++ t) ≡ 1 = simp (le-leb a 0x7F (leb→le a 0x7F (g .0))) in
     omega (arith, rw e at (step (a ∷ p ++ t)), plain-run p t (g .1))
 
-pub plain-step : (s : List ℕ) (t : Bool) → (t ≡ true → PlainFor 8 s) → t ≡ true → Step s 8
-plain-step s t h e =
+pub plain-step : (n : ℕ) (s : List ℕ) (t : Bool) → 0 < n → (t ≡ true → PlainFor n s) → t ≡ true → Step s n
+plain-step n s t z h e =
     let p = h e in
     record {
       inside = p .there;
-      on = rw (take-append-drop, length-take-le 8 s (p .there)) at (plain-run (take 8 s) (drop 8 s) (p .ascii));
-      stuck = λ z. absurd (omega arith);
+      on = rw (take-append-drop, length-take-le n s (p .there)) at (plain-run (take n s) (drop n s) (p .ascii));
+      stuck = λ e. absurd (omega arith);
+    }
+
+-- the list that the code's `&s[i..]` is
+part : (s : List ℕ) (i : ℕ) → take (length s - i) (drop i s) ≡ drop i s
+part s i = take-all (length s - i) (drop i s) (omega (arith, length-drop i s))
+
+-- ---- ASCII in one part and in the next
+plain-append : (p t : List ℕ) → T (allPlain p) → T (allPlain t) → T (allPlain (p ++ t))
+plain-append [] t h g = g
+plain-append (a ∷ p) t h g =
+    let k = T-and (leb a 0x7F) (allPlain p) .0 h in T-and (leb a 0x7F) (allPlain (p ++ t)) .1 (k .0, plain-append p t (k .1) g)
+
+both : (p q : Bool) → p && q ≡ true → (p ≡ true) × (q ≡ true)
+both true true e = (refl, refl)
+both true false e = absurd (false≢true e)
+both false q e = absurd (false≢true e)
+
+pub plain-join : (n m : ℕ) (s : List ℕ) (p q : Bool) → n ≤ length s → (p ≡ true → PlainFor n s) → (q ≡ true → PlainFor m (take (length s - n) (drop n s)))
+    → p && q ≡ true → PlainFor (n + m) s
+plain-join n m s p q l h g e =
+    let b = both p q e in
+    let x = h (b .0) in
+    let y : PlainFor m (drop n s) = rw (part s n) at (g (b .1)) in
+    record {
+      there = omega (arith, y .there, length-drop n s);
+      ascii = rw (take-add n m s) (plain-append (take n s) (take m (drop n s)) (x .ascii) (y .ascii));
     }
 
 -- ---- the loop
@@ -43,10 +69,6 @@ pub record Upto (s : List ℕ) (i : ℕ) : Type 0 where
 
 pub start : (s : List ℕ) → Upto s 0
 start s = record { inside = omega arith; good = omega arith }
-
--- the list that the code's `&s[i..]` is
-part : (s : List ℕ) (i : ℕ) → take (length s - i) (drop i s) ≡ drop i s
-part s i = take-all (length s - i) (drop i s) (omega (arith, length-drop i s))
 
 pub past : (s : List ℕ) (i n : ℕ) → Upto s i → Step (take (length s - i) (drop i s)) n → Upto s (i + n)
 past s i n u p =

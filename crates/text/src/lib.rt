@@ -128,10 +128,23 @@ fn eight_plain(s: &[u8]) -> bool
     plain_word(s[0], s[1], s[2], s[3], s[4], s[5], s[6], s[7])
 }
 
-// How far to go on: past eight bytes of ASCII or past one character; 0 where s begins with none.
+// The same of 32 bytes: long text goes by in these. The tests are joined by `&`, so that they become one.
+fn many_plain(s: &[u8]) -> bool
+    ensures { λ r. ⌜ (r ≡ true → PlainFor 32 (now (s .entry))) ⌝ }
+{
+    if s.len() < 32 {
+        return false;
+    }
+    eight_plain(s) & eight_plain(&s[8..]) & eight_plain(&s[16..]) & eight_plain(&s[24..])
+}
+
+// How far to go on: past 32 or eight bytes of ASCII or past one character; 0 where s begins with none.
 fn step(s: &[u8]) -> usize
     ensures { λ r. ⌜ Step (now (s .entry)) r ⌝ }
 {
+    if many_plain(s) {
+        return 32;
+    }
     if eight_plain(s) {
         return 8;
     }

@@ -1,0 +1,32 @@
+-- `text::many_plain` meets its contract: four times eight octets, one after the other.
+use borrow.Author.Needs.{needs}
+use Rattle.text.proofs.many_plain.Statement.{statement}
+use Rattle.text.proofs.many_plain.Tie as tie
+use denote.Ref.{now}
+use mathlib.Core.Bool.{false≢true}
+use native.Mathlib.Omega.{arith}
+use Rattle.text.proofs.Steps.{plain-join}
+
+returns-2 : tie.Need-returns-2
+returns-2 c = let s = now (c .before .before .before .before .before .before .before .before .before .args .s) in
+    plain-join 24 8 s _ _ (omega arith) (plain-join 16 8 s _ _ (omega arith) (plain-join 8 8 s _ _ (omega arith) (c .before .before .before .before .before .before .eight-plain .ensures) (c .before .before .before .before .eight-plain2 .ensures)) (c .before .before .eight-plain3 .ensures)) (c .eight-plain4 .ensures)
+
+pub many-plain-spec : {M : Type 1} → statement M
+many-plain-spec =
+    tie.close
+    (tie.spec
+    (λ c. λ e. absurd (false≢true e))
+    (λ c κs. search needs)
+    (λ c. search needs)
+    (λ c. search needs)
+    (λ c. search needs)
+    (λ c κs. search needs)
+    (λ c. search needs)
+    (λ c. search needs)
+    (λ c. search needs)
+    (λ c κs. search needs)
+    (λ c. search needs)
+    (λ c. search needs)
+    (λ c. search needs)
+    (λ c κs. search needs)
+    returns-2)
