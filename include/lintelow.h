@@ -18,7 +18,7 @@
  *     1, 2   its place; its stream: 1 for the daemon's stream of a handshake, else 0
  *     3      kind
  *     4, 5   end; end of the daemon's stream of a handshake
- *     6, 7   how many entries; length of the payload
+ *     6, 7   how many entries; length of the payload, or of what was written
  *     8-19   twelve numbers, 0 to 11
  *     20-22  three counts, 0 to 2
  *     23, 24 0, kept for later
@@ -31,14 +31,16 @@
  *
  *     1   cut short: a number, contents, padding or chunk needs more bytes than remain    start of that piece
  *     2   too long: a length above 268435456                                              the length
- *     3   bad text: a string isn't RFC 3629 text                                          its contents
+ *     3   bad text: a string isn't RFC 3629 text                                          its contents; of a writer the entry's index
  *     4   no entry room: a kept string has no slot                                        its length
  *     5   no payload room: a chunk doesn't fit in what is left                            its length
  *     6   magic of the client                                                             0
  *     7   magic of the daemon                                                             0
  *     8   not Last: the handshake's final number differs                                  that number
  *     9   unknown operation                                                               0
- *     10  output full: the block is too short                                             0
+ *     10  output full: a writer's whole output doesn't fit, or the block is too short     0
+ *     11  no such entry: index not below the slots, or count above them                   the index or count
+ *     12  bad entry: start + length passes the end of the bytes                           the entry's index
  *
  * Pieces are judged in the order of the stream, and nothing is written before all are judged. */
 #ifndef LINTELOW_H
@@ -133,6 +135,65 @@ uint64_t lintelow_parse_handshake(const uint8_t *client, size_t client_len, cons
  * Refusals 1, 2, 3, 4, 7, 8, 10. */
 uint64_t lintelow_parse_daemon_handshake(uint16_t major, uint8_t minor, const uint8_t *daemon, size_t daemon_len, uint8_t *entries, size_t entries_len,
                                          uint8_t *block, size_t block_len);
+
+/* PIECES. These look at s from the place `at` on, which may be any number; places and ends count from the start of s. */
+
+/* Number 0 is the number that stands there, eight bytes or four. Refusals 1, 10. */
+uint64_t lintelow_read_u64(const uint8_t *s, size_t s_len, size_t at, uint8_t *block, size_t block_len);
+uint64_t lintelow_read_u32(const uint8_t *s, size_t s_len, size_t at, uint8_t *block, size_t block_len);
+
+/* Kind 1 and number 0 where eight bytes are left, else kind 0; the end is `at`. Refusal 10. */
+uint64_t lintelow_peek_u64(const uint8_t *s, size_t s_len, size_t at, uint8_t *block, size_t block_len);
+
+/* A string, which is not looked at; one that must be text. One entry is reported: start and length are numbers 1 and 2. Refusals 1, 2, 10; 3 for text. */
+uint64_t lintelow_read_bytes(const uint8_t *s, size_t s_len, size_t at, uint8_t *block, size_t block_len);
+uint64_t lintelow_read_string(const uint8_t *s, size_t s_len, size_t at, uint8_t *block, size_t block_len);
+
+/* The end of a string, which is not looked at. Refusals 1, 2, 10. */
+uint64_t lintelow_skip_string(const uint8_t *s, size_t s_len, size_t at, uint8_t *block, size_t block_len);
+
+/* A set of strings: their entries, and count 0 is how many. Refusals 1, 2, 3, 4, 10. */
+uint64_t lintelow_read_string_set(const uint8_t *s, size_t s_len, size_t at, uint8_t *entries, size_t entries_len, uint8_t *block, size_t block_len);
+
+/* The end of a set; number 0 is how many. Refusals 1, 2, 10. */
+uint64_t lintelow_skip_string_set(const uint8_t *s, size_t s_len, size_t at, uint8_t *block, size_t block_len);
+
+/* Framed data: its payload. Refusals 1, 2, 5, 10. */
+uint64_t lintelow_read_framed(const uint8_t *s, size_t s_len, size_t at, uint8_t *payload, size_t payload_len, uint8_t *block, size_t block_len);
+
+/* The end of framed data; number 0 is the payload's length. Refusals 1, 2, 10. */
+uint64_t lintelow_skip_framed(const uint8_t *s, size_t s_len, size_t at, uint8_t *block, size_t block_len);
+
+/* WRITERS. What they write stands at the start of `out`; `end` is how many bytes. What lies beyond, or is lent to a call that refuses, is as it was. */
+
+/* A number, of eight bytes or four. Refusal 10. */
+uint64_t lintelow_write_u64(uint8_t *out, size_t out_len, uint64_t x, uint8_t *block, size_t block_len);
+uint64_t lintelow_write_u32(uint8_t *out, size_t out_len, uint32_t x, uint8_t *block, size_t block_len);
+
+/* A string with the contents c, whatever they are; one that must be text. Refusal 10; 3 for text, before it. */
+uint64_t lintelow_write_bytes(uint8_t *out, size_t out_len, const uint8_t *c, size_t c_len, uint8_t *block, size_t block_len);
+uint64_t lintelow_write_string(uint8_t *out, size_t out_len, const uint8_t *c, size_t c_len, uint8_t *block, size_t block_len);
+
+/* A set of the strings that the first `count` entries have in `bytes`. Refusals 11, then for each entry 12 and 3, then 10. */
+uint64_t lintelow_write_string_set(uint8_t *out, size_t out_len, const uint8_t *bytes, size_t bytes_len, const uint8_t *entries, size_t entries_len,
+                                   size_t count, uint8_t *block, size_t block_len);
+
+/* Framed data with the payload c, in chunks of 32768 bytes. Refusal 10. */
+uint64_t lintelow_write_framed(uint8_t *out, size_t out_len, const uint8_t *c, size_t c_len, uint8_t *block, size_t block_len);
+
+/* Bare text: normal, repair, check for 0, 1, 2, else the number; "N paths"; "N overrides". Refusal 10. */
+uint64_t lintelow_write_mode(uint8_t *out, size_t out_len, uint64_t n, uint8_t *block, size_t block_len);
+uint64_t lintelow_write_paths(uint8_t *out, size_t out_len, uint64_t n, uint8_t *block, size_t block_len);
+uint64_t lintelow_write_overrides(uint8_t *out, size_t out_len, uint64_t n, uint8_t *block, size_t block_len);
+
+/* TESTS. */
+
+/* Kind 1 where c is a store path, else kind 0. Refusal 10. */
+uint64_t lintelow_extract_store_path(const uint8_t *c, size_t c_len, uint8_t *block, size_t block_len);
+
+/* The entry at `index`, if it stands within `bytes`: start and length are numbers 1 and 2. Refusals 10, 11, 12. */
+uint64_t lintelow_entry(const uint8_t *bytes, size_t bytes_len, const uint8_t *entries, size_t entries_len, size_t index, uint8_t *block,
+                        size_t block_len);
 
 #ifdef __cplusplus
 }

@@ -212,11 +212,155 @@ static void handshakes(void) {
     CALLED("parse_daemon_handshake of nothing", 1, lintelow_parse_daemon_handshake(1, 38, NULL, 0, NULL, 0, block, n));
 }
 
+static void pieces(void) {
+    s_len = 0;
+    number(7), string("bin7"), number(2), string("a"), string("bc"), number(2), memcpy(s + s_len, "xy", 2), s_len += 2;
+    number(0);
+    CALLED("read_u64", 0, lintelow_read_u64(s, s_len, 8, block, n));
+    EXPECT("number", at(block, NUMBERS), 4);
+    EXPECT("end", at(block, END), 16);
+    CALLED("read_u64 past the end", 1, lintelow_read_u64(s, s_len, (size_t)-1, block, n));
+    EXPECT("place", at(block, PLACE), (uint64_t)-1);
+    CALLED("read_u32", 0, lintelow_read_u32(s, s_len, 16, block, n));
+    EXPECT("number", at(block, NUMBERS), 0x376e6962);
+    EXPECT("end", at(block, END), 20);
+    CALLED("read_u32, cut short", 1, lintelow_read_u32(s, s_len, s_len - 3, block, n));
+    EXPECT("place", at(block, PLACE), s_len - 3);
+    CALLED("peek_u64", 0, lintelow_peek_u64(s, s_len, 8, block, n));
+    EXPECT("kind", at(block, KIND), 1);
+    EXPECT("number", at(block, NUMBERS), 4);
+    EXPECT("end", at(block, END), 8);
+    CALLED("peek_u64, seven bytes left", 0, lintelow_peek_u64(s, s_len, s_len - 7, block, n));
+    EXPECT("kind", at(block, KIND), 0);
+    EXPECT("number", at(block, NUMBERS), 0);
+    CALLED("read_bytes", 0, lintelow_read_bytes(s, s_len, 8, block, n));
+    EXPECT("entries", at(block, ENTRIES), 1);
+    EXPECT("start", at(block, NUMBERS + 1), 16);
+    EXPECT("length", at(block, NUMBERS + 2), 4);
+    CALLED("read_string", 0, lintelow_read_string(s, s_len, 8, block, n));
+    EXPECT("start", at(block, NUMBERS + 1), 16);
+    EXPECT("end", at(block, END), 24);
+    CALLED("skip_string", 0, lintelow_skip_string(s, s_len, 8, block, n));
+    EXPECT("end", at(block, END), 24);
+    CALLED("read_string_set", 0, lintelow_read_string_set(s, s_len, 24, entries, sizeof entries, block, n));
+    EXPECT("count", at(block, COUNTS), 2);
+    EXPECT("entries", at(block, ENTRIES), 2);
+    EXPECT("start", at(entries, 2), 56);
+    EXPECT("end", at(block, END), 64);
+    CALLED("read_string_set, 1 slot", 4, lintelow_read_string_set(s, s_len, 24, entries, LINTELOW_ENTRY, block, n));
+    EXPECT("place", at(block, PLACE), 48);
+    CALLED("skip_string_set", 0, lintelow_skip_string_set(s, s_len, 24, block, n));
+    EXPECT("count", at(block, NUMBERS), 2);
+    EXPECT("end", at(block, END), 64);
+    CALLED("read_framed", 0, lintelow_read_framed(s, s_len, 64, payload, sizeof payload, block, n));
+    EXPECT("end", at(block, END), s_len);
+    EXPECT("payload", at(block, PAYLOAD), 2);
+    EXPECT("payload's bytes", (uint64_t)memcmp(payload, "xy", 2), 0);
+    EXPECT("room kept", filled(payload, sizeof payload), sizeof payload - 2);
+    CALLED("read_framed, 1 byte of room", 5, lintelow_read_framed(s, s_len, 64, payload, 1, block, n));
+    EXPECT("place", at(block, PLACE), 64);
+    CALLED("skip_framed", 0, lintelow_skip_framed(s, s_len, 64, block, n));
+    EXPECT("total", at(block, NUMBERS), 2);
+    EXPECT("end", at(block, END), s_len);
+    s[16] = 0xff;
+    CALLED("read_bytes, bad text", 0, lintelow_read_bytes(s, s_len, 8, block, n));
+    CALLED("skip_string, bad text", 0, lintelow_skip_string(s, s_len, 8, block, n));
+    CALLED("read_string, bad text", 3, lintelow_read_string(s, s_len, 8, block, n));
+    EXPECT("place", at(block, PLACE), 16);
+
+    CALLED("read_u64 of nothing", 1, lintelow_read_u64(NULL, 0, 0, block, n));
+    CALLED("read_u32 of nothing", 1, lintelow_read_u32(NULL, 0, 0, block, n));
+    CALLED("peek_u64 of nothing", 0, lintelow_peek_u64(NULL, 0, 0, block, n));
+    CALLED("read_bytes of nothing", 1, lintelow_read_bytes(NULL, 0, 0, block, n));
+    CALLED("read_string of nothing", 1, lintelow_read_string(NULL, 0, 0, block, n));
+    CALLED("skip_string of nothing", 1, lintelow_skip_string(NULL, 0, 0, block, n));
+    CALLED("read_string_set of nothing", 1, lintelow_read_string_set(NULL, 0, 0, NULL, 0, block, n));
+    CALLED("skip_string_set of nothing", 1, lintelow_skip_string_set(NULL, 0, 0, block, n));
+    CALLED("read_framed of nothing", 1, lintelow_read_framed(NULL, 0, 0, NULL, 0, block, n));
+    CALLED("skip_framed of nothing", 1, lintelow_skip_framed(NULL, 0, 0, block, n));
+}
+
+/* What a writer wrote into the room, which is the payload's here: these bytes, their length twice in the answer, and nothing beyond. */
+static void wrote(int line, const void *bytes, size_t length) {
+    expect(line, "end", at(block, END), length);
+    expect(line, "written", at(block, PAYLOAD), length);
+    expect(line, "bytes", (uint64_t)memcmp(payload, bytes, length), 0);
+    expect(line, "room kept", filled(payload, sizeof payload), sizeof payload - length);
+}
+
+#define WROTE(bytes, length) wrote(__LINE__, bytes, length)
+
+static void writers(void) {
+    static const uint8_t abc[3] = {'a', 'b', 'c'}, bad[1] = {0xff};
+    static const uint8_t one[LINTELOW_ENTRY] = {1, 0, 0, 0, 0, 0, 0, 0, 2}, past[LINTELOW_ENTRY] = {2, 0, 0, 0, 0, 0, 0, 0, 2};
+    CALLED("write_u64", 0, lintelow_write_u64(payload, sizeof payload, 0x61626364, block, n));
+    WROTE("dcba\0\0\0", 8);
+    CALLED("write_u64, 7 bytes of room", 10, lintelow_write_u64(payload, 7, 1, block, n));
+    CALLED("write_u32", 0, lintelow_write_u32(payload, sizeof payload, 0x61626364, block, n));
+    WROTE("dcba", 4);
+    CALLED("write_u32, 3 bytes of room", 10, lintelow_write_u32(payload, 3, 1, block, n));
+    CALLED("write_bytes", 0, lintelow_write_bytes(payload, sizeof payload, bad, 1, block, n));
+    WROTE("\1\0\0\0\0\0\0\0\xff\0\0\0\0\0\0", 16);
+    CALLED("write_bytes, 15 bytes of room", 10, lintelow_write_bytes(payload, 15, bad, 1, block, n));
+    CALLED("write_string", 0, lintelow_write_string(payload, sizeof payload, abc, 3, block, n));
+    WROTE("\3\0\0\0\0\0\0\0abc\0\0\0\0", 16);
+    CALLED("write_string, bad text", 3, lintelow_write_string(payload, sizeof payload, bad, 1, block, n));
+    CALLED("write_string_set", 0, lintelow_write_string_set(payload, sizeof payload, abc, 3, one, sizeof one, 0, block, n));
+    WROTE("\0\0\0\0\0\0\0", 8);
+    CALLED("write_string_set, too full", 10, lintelow_write_string_set(payload, sizeof payload, abc, 3, one, sizeof one, 1, block, n));
+    CALLED("write_string_set, 2 entries", 11, lintelow_write_string_set(payload, sizeof payload, abc, 3, one, sizeof one, 2, block, n));
+    EXPECT("place", at(block, PLACE), 2);
+    CALLED("write_string_set, bad entry", 12, lintelow_write_string_set(payload, sizeof payload, abc, 3, past, sizeof past, 1, block, n));
+    CALLED("write_framed", 0, lintelow_write_framed(payload, sizeof payload, NULL, 0, block, n));
+    WROTE("\0\0\0\0\0\0\0", 8);
+    CALLED("write_framed, 16 bytes of room", 10, lintelow_write_framed(payload, sizeof payload, abc, 3, block, n));
+    CALLED("write_mode", 0, lintelow_write_mode(payload, sizeof payload, 2, block, n));
+    WROTE("check", 5);
+    CALLED("write_mode, 4 bytes of room", 10, lintelow_write_mode(payload, 4, 2, block, n));
+    CALLED("write_paths", 0, lintelow_write_paths(payload, sizeof payload, 12, block, n));
+    WROTE("12 paths", 8);
+    CALLED("write_paths, 7 bytes of room", 10, lintelow_write_paths(payload, 7, 12, block, n));
+    CALLED("write_overrides", 0, lintelow_write_overrides(payload, sizeof payload, 0, block, n));
+    WROTE("0 overrides", 11);
+    CALLED("write_overrides without room", 10, lintelow_write_overrides(NULL, 0, 0, block, n));
+
+    CALLED("write_u64 without room", 10, lintelow_write_u64(NULL, 0, 0, block, n));
+    CALLED("write_u32 without room", 10, lintelow_write_u32(NULL, 0, 0, block, n));
+    CALLED("write_bytes without room", 10, lintelow_write_bytes(NULL, 0, NULL, 0, block, n));
+    CALLED("write_string without room", 10, lintelow_write_string(NULL, 0, NULL, 0, block, n));
+    CALLED("write_string_set without room", 10, lintelow_write_string_set(NULL, 0, NULL, 0, NULL, 0, 0, block, n));
+    CALLED("write_framed without room", 10, lintelow_write_framed(NULL, 0, NULL, 0, block, n));
+    CALLED("write_mode without room", 10, lintelow_write_mode(NULL, 0, 0, block, n));
+    CALLED("write_paths without room", 10, lintelow_write_paths(NULL, 0, 0, block, n));
+}
+
+static void tests(void) {
+    static const char path[] = "/nix/store/pczmyy74v7nix6zir6hbarllxr5swa31-dep";
+    static const uint8_t one[LINTELOW_ENTRY] = {11, 0, 0, 0, 0, 0, 0, 0, 32};
+    const uint8_t *bytes = (const uint8_t *)path;
+    CALLED("extract_store_path", 0, lintelow_extract_store_path(bytes, 47, block, n));
+    EXPECT("kind", at(block, KIND), 1);
+    CALLED("extract_store_path, 43 bytes", 0, lintelow_extract_store_path(bytes, 43, block, n));
+    EXPECT("kind", at(block, KIND), 0);
+    CALLED("extract_store_path of nothing", 0, lintelow_extract_store_path(NULL, 0, block, n));
+    EXPECT("kind", at(block, KIND), 0);
+    CALLED("entry", 0, lintelow_entry(bytes, 47, one, sizeof one, 0, block, n));
+    EXPECT("start", at(block, NUMBERS + 1), 11);
+    EXPECT("length", at(block, NUMBERS + 2), 32);
+    CALLED("entry, the second of one", 11, lintelow_entry(bytes, 47, one, sizeof one, 1, block, n));
+    EXPECT("place", at(block, PLACE), 1);
+    CALLED("entry past the bytes", 12, lintelow_entry(bytes, 42, one, sizeof one, 0, block, n));
+    CALLED("entry of nothing", 11, lintelow_entry(NULL, 0, NULL, 0, 0, block, n));
+}
+
 int main(void) {
     arguments();
     replies();
     messages();
     handshakes();
+    pieces();
+    writers();
+    tests();
     printf("%d failures\n", failures);
     return failures != 0;
 }

@@ -35,7 +35,7 @@
 //! # Ok::<(), lintelow::Refusal>(())
 //! ```
 //!
-//! The functions here allocate what they answer. Those of [`raw`] take lent room instead and answer with numbers and entries, as the library does.
+//! [`wire`] has the pieces that streams are made of. The functions here and there allocate what they answer. Those of [`raw`] take lent room instead and answer with numbers and entries, as the library does.
 #[cfg(not(all(target_pointer_width = "64", target_endian = "little")))]
 compile_error!("Lintelow is for little-endian processors of 64 bits");
 
@@ -43,6 +43,7 @@ mod answer;
 pub mod raw;
 mod read;
 mod types;
+pub mod wire;
 
 pub use answer::{Answer, Entries, Entry, Refusal};
 pub use read::{

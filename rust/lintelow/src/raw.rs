@@ -11,7 +11,10 @@
 use crate::answer::{Answer, Block, Refusal};
 use crate::types::Version;
 
+mod wire;
+
 pub use crate::answer::ENTRY;
+pub use wire::*;
 
 extern "C" {
     fn lintelow_read_op_args(
