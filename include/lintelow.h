@@ -195,6 +195,12 @@ uint64_t lintelow_extract_store_path(const uint8_t *c, size_t c_len, uint8_t *bl
 uint64_t lintelow_entry(const uint8_t *bytes, size_t bytes_len, const uint8_t *entries, size_t entries_len, size_t index, uint8_t *block,
                         size_t block_len);
 
+/* Kind 1 where the client sends framed data with the operation, else kind 0. Refusals 9, 10. */
+uint64_t lintelow_op_has_client_framed_data(uint64_t op, uint8_t *block, size_t block_len);
+
+/* The version that a number stands for: numbers 0 and 1 are major and minor. Refusal 10. */
+uint64_t lintelow_version_from_wire(uint64_t wire, uint8_t *block, size_t block_len);
+
 #ifdef __cplusplus
 }
 #endif

@@ -351,6 +351,14 @@ static void tests(void) {
     EXPECT("place", at(block, PLACE), 1);
     CALLED("entry past the bytes", 12, lintelow_entry(bytes, 42, one, sizeof one, 0, block, n));
     CALLED("entry of nothing", 11, lintelow_entry(NULL, 0, NULL, 0, 0, block, n));
+    CALLED("op_has_client_framed_data 44", 0, lintelow_op_has_client_framed_data(44, block, n));
+    EXPECT("kind", at(block, KIND), 1);
+    CALLED("op_has_client_framed_data 6", 0, lintelow_op_has_client_framed_data(6, block, n));
+    EXPECT("kind", at(block, KIND), 0);
+    CALLED("op_has_client_framed_data 48", 9, lintelow_op_has_client_framed_data(48, block, n));
+    CALLED("version_from_wire", 0, lintelow_version_from_wire(0x10126, block, n));
+    EXPECT("major", at(block, NUMBERS), 1);
+    EXPECT("minor", at(block, NUMBERS + 1), 38);
 }
 
 int main(void) {

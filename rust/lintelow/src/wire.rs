@@ -4,6 +4,7 @@
 use crate::answer::{Refusal, ENTRY};
 use crate::raw;
 use crate::read::with_room;
+use crate::types::Version;
 use std::str;
 
 pub fn read_u64(stream: &[u8], at: usize) -> Result<(u64, usize), Refusal> {
@@ -117,6 +118,17 @@ pub fn overrides_text(count: u64) -> String {
 pub fn extract_store_path(bytes: &[u8]) -> Option<&str> {
     let answer = raw::extract_store_path(bytes).expect("it refuses nothing");
     (answer.kind == 1).then(|| str::from_utf8(bytes).expect("a store path was judged to be text"))
+}
+
+/// Does the client send framed data with this operation? Refused by 9 where the number is no operation's.
+pub fn op_has_client_framed_data(op: u64) -> Result<bool, Refusal> {
+    Ok(raw::op_has_client_framed_data(op)?.kind == 1)
+}
+
+/// The version that a number on the wire stands for.
+pub fn version_from_wire(wire: u64) -> Version {
+    let [major, minor, ..] = raw::version_from_wire(wire).expect("it refuses nothing").numbers;
+    Version::new(major as u16, minor as u8)
 }
 
 /// Writes behind what `out` has, with room as guessed, and with twice as much while that is too little.

@@ -80,3 +80,10 @@ fn store_paths_and_entries() {
     assert_eq!(entry(0), Ok(Entry { start: 11, length: 32 }));
     assert_eq!((entry(1), entry(2)), (Err(refused(12, 1)), Err(refused(11, 2))));
 }
+
+#[test]
+fn operations_and_versions() {
+    assert_eq!((op_has_client_framed_data(39), op_has_client_framed_data(38)), (Ok(true), Ok(false)));
+    assert_eq!(op_has_client_framed_data(48), Err(refused(9, 0)));
+    assert_eq!(version_from_wire(0x1_0126), Version::new(1, 38));
+}

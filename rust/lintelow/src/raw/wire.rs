@@ -114,6 +114,8 @@ extern "C" {
         block: *mut u8,
         block_len: usize,
     ) -> u64;
+    fn lintelow_op_has_client_framed_data(op: u64, block: *mut u8, block_len: usize) -> u64;
+    fn lintelow_version_from_wire(wire: u64, block: *mut u8, block_len: usize) -> u64;
 }
 
 /// A set of strings from a place on; count 0 is how many.
@@ -173,6 +175,26 @@ pub fn entry(bytes: &[u8], entries: &[u8], index: usize) -> Result<Answer<'stati
     // SAFETY: as raw.rs says.
     unsafe {
         lintelow_entry(bytes.as_ptr(), bytes.len(), entries.as_ptr(), entries.len(), index, block.0.as_mut_ptr(), Block::LENGTH);
+    }
+    block.answer(&[], &[])
+}
+
+/// Kind 1 where the client sends framed data with the operation, else 0; 9 for a number that is no operation's.
+pub fn op_has_client_framed_data(op: u64) -> Result<Answer<'static>, Refusal> {
+    let mut block = Block::new();
+    // SAFETY: as raw.rs says.
+    unsafe {
+        lintelow_op_has_client_framed_data(op, block.0.as_mut_ptr(), Block::LENGTH);
+    }
+    block.answer(&[], &[])
+}
+
+/// Numbers 0 and 1 are major and minor of the version that a number stands for.
+pub fn version_from_wire(wire: u64) -> Result<Answer<'static>, Refusal> {
+    let mut block = Block::new();
+    // SAFETY: as raw.rs says.
+    unsafe {
+        lintelow_version_from_wire(wire, block.0.as_mut_ptr(), Block::LENGTH);
     }
     block.answer(&[], &[])
 }
