@@ -1,2 +1,2 @@
--- What numbers at the start of a part read and write as, for the contracts.
+-- What numbers at the start of a part read as, for the contracts.
 pub mod Number

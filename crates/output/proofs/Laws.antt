@@ -13,7 +13,7 @@ use borrow.Author.Tests.{le-leb, lt-leb, leb-true, leb-false}
 use Rattle.layouts.specs.Primitive.{pick, Result, littleEnd, numberBytes, padOf, ok, refused}
 use Rattle.layouts.specs.Writers.{writing, stringBytes}
 use Rattle.layouts.proofs.Little.{length-little, length-number}
-use Rattle.number.specs.Number.{stored}
+use Rattle.number_out.specs.Stored.{stored}
 use Rattle.output.specs.Answer.{afterWriting}
 use Rattle.output.specs.Placed.{placed}
 

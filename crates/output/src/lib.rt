@@ -40,7 +40,7 @@ pub fn put_number(out: &mut [u8], at: usize, x: u64)
     ensures { λ r. ⌜ now (out .exit) ≡ placed at (numberBytes x) (now (out .entry)) ⌝ }
 {
     if has_room(out.len(), at, 8) {
-        number::write(&mut out[at..], x);
+        number_out::write(&mut out[at..], x);
         return;
     }
 }

@@ -263,7 +263,7 @@ fn group_step(s: &[u8], at: usize, flow: Flow) -> Step
     ensures falls { λ r. ⌜ Falls (now (s .entry)) (fuelAt (now (s .entry)) at flow) r ⌝ }
 {
     let i = flow.run;
-    let r = fields::run_at(i);
+    let r = field_runs::run_at(i);
     let kind = r.kind;
     let start = r.start;
     if kind == table::END {

@@ -19,7 +19,7 @@ pub fn write_u64(out: &mut [u8], x: u64) -> Written
     ensures answer { λ r. ⌜ meaning r ≡ writing (numberBytes x) (now (out .entry)) ⌝ }
     ensures lent { λ r. ⌜ now (out .exit) ≡ afterWriting (numberBytes x) (now (out .entry)) ⌝ }
 {
-    if number::write(out, x) {
+    if number_out::write(out, x) {
         return Written::Length(8);
     }
     Written::Refused {
@@ -32,7 +32,7 @@ pub fn write_u32(out: &mut [u8], x: u32) -> Written
     ensures answer { λ r. ⌜ meaning r ≡ writing (littleEnd 4 x) (now (out .entry)) ⌝ }
     ensures lent { λ r. ⌜ now (out .exit) ≡ afterWriting (littleEnd 4 x) (now (out .entry)) ⌝ }
 {
-    if number::write_four(out, x as u64) {
+    if number_out::write_four(out, x as u64) {
         return Written::Length(4);
     }
     Written::Refused {

@@ -1,7 +1,7 @@
--- `fields::run_at` meets its contract: it takes a packed number apart as the definition does.
+-- `field_runs::run_at` meets its contract: it takes a packed number apart as the definition does.
 use borrow.Author.Needs.{needs}
-use Rattle.fields.proofs.run_at.Statement.{statement}
-use Rattle.fields.proofs.run_at.Tie as tie
+use Rattle.field_runs.proofs.run_at.Statement.{statement}
+use Rattle.field_runs.proofs.run_at.Tie as tie
 use mathlib.Core.Path.{ap}
 use Rattle.table.specs.Packed.{runTable}
 use Rattle.table.specs.Table.{runAt, runOf}

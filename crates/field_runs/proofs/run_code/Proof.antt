@@ -1,6 +1,6 @@
--- `fields::run_code` meets its contract: an arm is an entry of the list, and the last arm lies past its end.
-use Rattle.fields.proofs.run_code.Statement.{statement}
-use Rattle.fields.proofs.run_code.Tie as tie
+-- `field_runs::run_code` meets its contract: an arm is an entry of the list, and the last arm lies past its end.
+use Rattle.field_runs.proofs.run_code.Statement.{statement}
+use Rattle.field_runs.proofs.run_code.Tie as tie
 use Rattle.table.proofs.Tables.{entry, missed, getD-past}
 use Rattle.table.specs.Packed.{runCount, runList}
 
