@@ -1,0 +1,178 @@
+//! The library's readers, with framed payload left where it stands: a payload may be of gigabytes, and only its size and first bytes are shown.
+//!
+//! A reader that is lent no payload room refuses by 5 at the place where a payload begins. What stands before that place is read with an empty payload
+//! behind it, and the payload is passed over.
+use lintelow::{raw, OpCall, Refusal, ResultData, Version};
+use std::ops::Range;
+
+/// How many of a payload's first bytes are kept.
+pub const SHOWN: usize = 16;
+
+const NO_ENTRY_ROOM: u64 = 4;
+const NO_PAYLOAD_ROOM: u64 = 5;
+
+/// Framed data: the chunks' bytes, joined.
+#[derive(Debug, Clone, PartialEq, Eq, Default)]
+pub struct Payload {
+    pub size: u64,
+    pub first: Vec<u8>,
+}
+
+/// What a reader answers, where it ended, and the payload apart.
+pub struct Read<T> {
+    pub value: T,
+    pub end: usize,
+    pub payload: Payload,
+}
+
+/// The arguments of an operation. `None`: arguments that are not read.
+pub fn read_op_args(op: u64, version: Version, stream: &[u8]) -> Result<Read<Option<OpCall>>, Refusal> {
+    let judge = |entries: &mut [u8]| Ok(raw::read_op_args(op, version, stream, entries, &mut [])?.end);
+    apart(stream, judge, |part| lintelow::read_op_args(op, version, part))
+}
+
+/// The reply to an operation.
+pub fn read_daemon_result(op: u64, version: Version, stream: &[u8]) -> Result<Read<ResultData>, Refusal> {
+    let judge = |entries: &mut [u8]| Ok(raw::read_daemon_result(op, version, stream, entries, &mut [])?.end);
+    apart(stream, judge, |part| lintelow::read_daemon_result(op, version, part))
+}
+
+/// The number at a place of a stream.
+pub fn read_u64(stream: &[u8], at: usize) -> Result<u64, Refusal> {
+    match stream.get(at..).and_then(|rest| rest.first_chunk()) {
+        Some(bytes) => Ok(u64::from_le_bytes(*bytes)),
+        None => Err(Refusal { number: 1, place: at, stream: 0 }),
+    }
+}
+
+/// The text of a build's mode.
+pub fn mode_text(mode: u64) -> String {
+    mode.to_string()
+}
+
+fn apart<T>(
+    stream: &[u8],
+    judge: impl Fn(&mut [u8]) -> Result<usize, Refusal>,
+    read: impl Fn(&[u8]) -> Result<(T, usize), Refusal>,
+) -> Result<Read<T>, Refusal> {
+    match with_entries(stream.len(), judge) {
+        Ok(end) => {
+            let (value, end) = read(&stream[..end])?;
+            Ok(Read { value, end, payload: Payload::default() })
+        }
+        Err(Refusal { number: NO_PAYLOAD_ROOM, place, .. }) => {
+            let (payload, end) = pass_payload(stream, place)?;
+            let empty_payload = 0u64.to_le_bytes();
+            let (value, _) = read(&[&stream[..place], &empty_payload].concat())?;
+            Ok(Read { value, end, payload })
+        }
+        Err(refusal) => Err(refusal),
+    }
+}
+
+/// Calls with more and more room for entries, while that is what is asked for.
+fn with_entries<T>(streamed: usize, call: impl Fn(&mut [u8]) -> Result<T, Refusal>) -> Result<T, Refusal> {
+    // A kept string has a length of eight bytes in the stream.
+    let most = streamed / 8;
+    let mut slots = most.min(64);
+    loop {
+        match call(&mut vec![0; slots * raw::ENTRY]) {
+            Err(Refusal { number: NO_ENTRY_ROOM, .. }) if slots < most => slots = (4 * slots).min(most),
+            answer => return answer,
+        }
+    }
+}
+
+/// The payload that begins at a place, and where it ends.
+fn pass_payload(stream: &[u8], start: usize) -> Result<(Payload, usize), Refusal> {
+    let end = skip_framed(stream, start)?;
+    let mut payload = Payload::default();
+    for chunk in chunks(stream, start..end) {
+        payload.size += chunk.len() as u64;
+        let shown = chunk.len().min(SHOWN - payload.first.len());
+        payload.first.extend(&chunk[..shown]);
+    }
+    Ok((payload, end))
+}
+
+/// Where framed data ends: it is all that NarFromPath's reply has, from 1.23.
+fn skip_framed(stream: &[u8], start: usize) -> Result<usize, Refusal> {
+    let end = lintelow::skip_daemon_result(38, Version::new(1, 23), &stream[start..]);
+    match end {
+        Ok(end) => Ok(start + end),
+        Err(refusal) => Err(Refusal { place: start + refusal.place, ..refusal }),
+    }
+}
+
+/// The chunks of framed data that was passed over, as parts of the stream.
+fn chunks(stream: &[u8], framed: Range<usize>) -> impl Iterator<Item = &[u8]> {
+    let mut rest = stream.get(framed).unwrap_or_default();
+    std::iter::from_fn(move || {
+        let (length, behind) = rest.split_first_chunk()?;
+        let chunk = behind.get(..u64::from_le_bytes(*length) as usize)?;
+        rest = &behind[chunk.len()..];
+        (!chunk.is_empty()).then_some(chunk)
+    })
+}
+
+#[cfg(test)]
+mod tests {
+    use super::*;
+
+    const VERSION: Version = Version::new(1, 38);
+
+    fn numbers(numbers: &[u64]) -> Vec<u8> {
+        numbers.iter().flat_map(|number| number.to_le_bytes()).collect()
+    }
+
+    fn framed(chunks: &[&[u8]]) -> Vec<u8> {
+        let mut bytes = Vec::new();
+        for chunk in chunks {
+            bytes.extend((chunk.len() as u64).to_le_bytes());
+            bytes.extend(*chunk);
+        }
+        bytes.extend([0; 8]);
+        bytes
+    }
+
+    #[test]
+    fn a_payload_is_told_by_size_and_first_bytes() {
+        let mut stream = numbers(&[1, 0]);
+        stream.extend(framed(&[b"abc", b"defghijklmnopqrstuvwxyz", b"!"]));
+        let end = stream.len();
+        stream.extend(b"what follows");
+        let read = read_op_args(44, VERSION, &stream).unwrap();
+        assert_eq!(read.value, Some(OpCall::AddMultipleToStore { repair: true, dont_check_sigs: false, data: Vec::new() }));
+        assert_eq!(read.end, end);
+        assert_eq!(read.payload, Payload { size: 27, first: b"abcdefghijklmnop".to_vec() });
+    }
+
+    #[test]
+    fn a_reply_that_is_all_payload() {
+        let read = read_daemon_result(38, VERSION, &framed(&[b"nar"])).unwrap();
+        assert_eq!((read.value, read.end), (ResultData::Framed(Vec::new()), 19));
+        assert_eq!(read.payload, Payload { size: 3, first: b"nar".to_vec() });
+    }
+
+    #[test]
+    fn refusals_are_those_of_a_reader_with_room() {
+        let mut stream = numbers(&[0, 0]);
+        stream.extend(framed(&[b"abc", b"defg"]));
+        for length in 0..stream.len() {
+            let cut = &stream[..length];
+            let whole = lintelow::read_op_args(44, VERSION, cut).map(|_| ());
+            assert_eq!(read_op_args(44, VERSION, cut).map(|_| ()), whole, "cut at {length}");
+        }
+    }
+
+    #[test]
+    fn room_for_many_entries() {
+        let mut stream = numbers(&[5000]);
+        for _ in 0..5000 {
+            stream.extend(numbers(&[0]));
+        }
+        let read = read_daemon_result(23, VERSION, &stream).unwrap();
+        let ResultData::StringSet(strings) = read.value else { panic!("no set") };
+        assert_eq!((strings.len(), read.end), (5000, 8 * 5001));
+    }
+}

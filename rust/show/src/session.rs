@@ -1,0 +1,258 @@
+//! The order of a session: a handshake; then for each call the operation's number and its arguments from the client, and from the daemon its messages
+//! and a reply or an error. What each of them says, and where it ends, is the library's to say.
+use crate::library::{self, Payload};
+use lintelow::{ErrorInfo, HandshakeInfo, OpCall, Refusal, ResultData, StderrCode, Version};
+use std::ops::Range;
+
+/// Bytes of one of the streams, by their places.
+pub type Bytes = Range<usize>;
+
+#[derive(Debug, Clone, Copy, PartialEq, Eq)]
+pub enum Side {
+    Client,
+    Daemon,
+}
+
+/// What a session tells, in order: a handshake, then calls, and last why it stops or that it ends.
+#[derive(Debug)]
+pub enum Event {
+    Handshake(Handshake),
+    Call(Box<Call>),
+    Stop(Stop),
+    End(End),
+}
+
+/// Why a session is not read to its end.
+#[derive(Debug)]
+pub enum Stop {
+    Refused(Refused),
+    Unfollowed(Unfollowed),
+}
+
+#[derive(Debug)]
+pub struct Handshake {
+    pub info: HandshakeInfo,
+    pub client: Bytes,
+    pub daemon: Bytes,
+}
+
+/// A call as far as it was read: what is missing is explained by the event that follows.
+#[derive(Debug)]
+pub struct Call {
+    /// Counted from 1.
+    pub index: u64,
+    pub op: u64,
+    pub version: Version,
+    /// The operation's number, in the client's stream.
+    pub number: Bytes,
+    pub arguments: Option<Arguments>,
+    pub messages: Option<Messages>,
+    pub outcome: Option<Outcome>,
+}
+
+#[derive(Debug)]
+pub struct Arguments {
+    pub bytes: Bytes,
+    /// Where they end without framed data.
+    pub fixed_end: usize,
+    pub call: OpCall,
+    pub payload: Payload,
+}
+
+#[derive(Debug)]
+pub struct Messages {
+    pub bytes: Bytes,
+    /// How many, with the terminal one.
+    pub count: u64,
+    pub terminal: Option<StderrCode>,
+}
+
+#[derive(Debug)]
+pub enum Outcome {
+    Reply { bytes: Bytes, data: ResultData, payload: Payload },
+    Error { bytes: Bytes, info: ErrorInfo },
+}
+
+/// The part of a session that was refused.
+#[derive(Debug, Clone, Copy, PartialEq, Eq)]
+pub enum Part {
+    Handshake,
+    Number,
+    Arguments,
+    Messages,
+    Error,
+    Reply,
+}
+
+#[derive(Debug)]
+pub struct Refused {
+    pub part: Part,
+    /// The call's index and, but for its number, its operation.
+    pub call: Option<u64>,
+    pub op: Option<u64>,
+    pub side: Side,
+    /// Counted from the start of that side's stream.
+    pub place: usize,
+    pub refusal: Refusal,
+}
+
+/// A call whose arguments the library does not read: what comes after it can't be placed.
+#[derive(Debug)]
+pub struct Unfollowed {
+    pub call: u64,
+    pub op: u64,
+    pub version: Version,
+    /// Whether the library has such an operation.
+    pub known: bool,
+    /// Where the arguments begin, in the client's stream, and where the daemon's stream was left.
+    pub client: usize,
+    pub daemon: usize,
+}
+
+/// The client says no more.
+#[derive(Debug)]
+pub struct End {
+    pub calls: u64,
+    /// Bytes of the daemon's stream that belong to no call.
+    pub left: Bytes,
+}
+
+const UNKNOWN_OPERATION: u64 = 9;
+
+/// A session is read as its events are asked for.
+pub struct Session<'s> {
+    client: &'s [u8],
+    daemon: &'s [u8],
+    /// Where each stream was left.
+    said: usize,
+    answered: usize,
+    version: Option<Version>,
+    calls: u64,
+    /// Why the session stops, to be told after the call that it was found in.
+    stop: Option<Stop>,
+    over: bool,
+}
+
+impl<'s> Session<'s> {
+    pub fn new(client: &'s [u8], daemon: &'s [u8]) -> Session<'s> {
+        Session { client, daemon, said: 0, answered: 0, version: None, calls: 0, stop: None, over: false }
+    }
+
+    /// How many bytes of both streams were read.
+    pub fn bytes_read(&self) -> usize {
+        self.said + self.answered
+    }
+
+    fn shake_hands(&mut self) -> Event {
+        match lintelow::parse_handshake(self.client, self.daemon) {
+            Ok((info, client, daemon)) => {
+                self.version = Some(info.negotiated_version);
+                (self.said, self.answered) = (client, daemon);
+                Event::Handshake(Handshake { info, client: 0..client, daemon: 0..daemon })
+            }
+            Err(refusal) => {
+                self.over = true;
+                let side = if refusal.stream == 1 { Side::Daemon } else { Side::Client };
+                Event::Stop(Stop::Refused(Refused { part: Part::Handshake, call: None, op: None, side, place: refusal.place, refusal }))
+            }
+        }
+    }
+
+    fn next_call(&mut self, version: Version) -> Event {
+        self.calls += 1;
+        let start = self.said;
+        let op = match library::read_u64(self.client, start) {
+            Ok(op) => op,
+            Err(refusal) => {
+                self.over = true;
+                let call = Some(self.calls);
+                return Event::Stop(Stop::Refused(Refused { part: Part::Number, call, op: None, side: Side::Client, place: refusal.place, refusal }));
+            }
+        };
+        self.said += 8;
+        let number = start..self.said;
+        let mut call = Call { index: self.calls, op, version, number, arguments: None, messages: None, outcome: None };
+        self.stop = self.converse(&mut call).err();
+        Event::Call(Box::new(call))
+    }
+
+    /// Reads a call from its arguments on, as far as it goes.
+    fn converse(&mut self, call: &mut Call) -> Result<(), Stop> {
+        call.arguments = Some(self.arguments(call)?);
+        let messages = self.messages(call)?;
+        let failed = messages.terminal == Some(StderrCode::Error);
+        let messages = call.messages.insert(messages).bytes.clone();
+        call.outcome = Some(if failed { self.error(call, messages)? } else { self.reply(call)? });
+        Ok(())
+    }
+
+    fn arguments(&mut self, call: &Call) -> Result<Arguments, Stop> {
+        let start = self.said;
+        let stream = &self.client[start..];
+        let unfollowed = |known| {
+            let Call { index, op, version, .. } = *call;
+            Stop::Unfollowed(Unfollowed { call: index, op, version, known, client: start, daemon: self.answered })
+        };
+        let read = match library::read_op_args(call.op, call.version, stream) {
+            Ok(read) => read,
+            Err(refusal) if refusal.number == UNKNOWN_OPERATION => return Err(unfollowed(false)),
+            Err(refusal) => return Err(refused(call, Part::Arguments, Side::Client, start, refusal)),
+        };
+        let Some(op_call) = read.value else { return Err(unfollowed(true)) };
+        let fixed = lintelow::skip_op_args(call.op, call.version, stream).map_or(read.end, |(_, end)| end);
+        self.said = start + read.end;
+        Ok(Arguments { bytes: start..self.said, fixed_end: start + fixed, call: op_call, payload: read.payload })
+    }
+
+    fn messages(&mut self, call: &Call) -> Result<Messages, Stop> {
+        let start = self.answered;
+        let (result, end) =
+            lintelow::read_stderr_loop(&self.daemon[start..]).map_err(|refusal| refused(call, Part::Messages, Side::Daemon, start, refusal))?;
+        self.answered = start + end;
+        Ok(Messages { bytes: start..self.answered, count: result.count, terminal: result.terminal })
+    }
+
+    /// What follows the message Error, which the library reads together with the messages.
+    fn error(&mut self, call: &Call, messages: Bytes) -> Result<Outcome, Stop> {
+        let start = messages.start;
+        let (_, info, end) =
+            lintelow::read_stderr_with_error(&self.daemon[start..]).map_err(|refusal| refused(call, Part::Error, Side::Daemon, start, refusal))?;
+        self.answered = start + end;
+        let info = info.unwrap_or_else(|| ErrorInfo { error_type: String::new(), level: 0, name: String::new(), message: String::new() });
+        Ok(Outcome::Error { bytes: messages.end..self.answered, info })
+    }
+
+    fn reply(&mut self, call: &Call) -> Result<Outcome, Stop> {
+        let start = self.answered;
+        let read = library::read_daemon_result(call.op, call.version, &self.daemon[start..])
+            .map_err(|refusal| refused(call, Part::Reply, Side::Daemon, start, refusal))?;
+        self.answered = start + read.end;
+        Ok(Outcome::Reply { bytes: start..self.answered, data: read.value, payload: read.payload })
+    }
+}
+
+fn refused(call: &Call, part: Part, side: Side, start: usize, refusal: Refusal) -> Stop {
+    Stop::Refused(Refused { part, call: Some(call.index), op: Some(call.op), side, place: start + refusal.place, refusal })
+}
+
+impl Iterator for Session<'_> {
+    type Item = Event;
+
+    fn next(&mut self) -> Option<Event> {
+        if self.over {
+            return None;
+        }
+        if let Some(stop) = self.stop.take() {
+            self.over = true;
+            return Some(Event::Stop(stop));
+        }
+        match self.version {
+            None => Some(self.shake_hands()),
+            Some(version) if self.said < self.client.len() => Some(self.next_call(version)),
+            Some(_) => {
+                self.over = true;
+                Some(Event::End(End { calls: self.calls, left: self.answered..self.daemon.len() }))
+            }
+        }
+    }
+}
