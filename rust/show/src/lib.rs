@@ -13,15 +13,18 @@ mod summary;
 mod text;
 mod words;
 
-use options::{Command, Options};
-use progress::Progress;
+use options::Command;
 use recording::Recording;
 use session::{Event, Session, Stop};
 use std::env;
 use std::ffi::OsString;
 use std::io::{self, BufWriter, IsTerminal, Write};
 use summary::{Form, Summary};
-use words::{Style, Words};
+use words::Words;
+
+pub use options::Options;
+pub use progress::Progress;
+pub use words::Style;
 
 /// How a session is told.
 pub(crate) trait View {
@@ -67,35 +70,40 @@ fn complain(wrong: &str) -> Status {
 
 fn show(recording: &Recording, options: &Options) -> io::Result<Status> {
     let out = io::stdout();
-    let told_on_terminal = out.is_terminal() && !options.summary;
     let style = Style { colour: out.is_terminal() && colour_wanted(), full: options.full };
-    let mut view = view(BufWriter::new(out.lock()), options, style, recording);
+    let shared = out.is_terminal() && !options.summary;
     let total = recording.client.len() + recording.daemon.len();
-    let mut progress = Progress::new(io::stderr().is_terminal().then(io::stderr), total);
+    let mut progress = Progress::new(io::stderr().is_terminal().then(io::stderr), shared, total);
+    tell(&recording.client, &recording.daemon, options, style, BufWriter::new(out.lock()), &mut progress)
+}
 
-    let mut session = Session::new(&recording.client, &recording.daemon);
+/// Tells a session as the options ask for.
+pub fn tell(
+    client: &[u8],
+    daemon: &[u8],
+    options: &Options,
+    style: Style,
+    out: impl Write,
+    progress: &mut Progress<impl Write>,
+) -> io::Result<Status> {
+    let mut view = view(client, daemon, options, style, out);
+    let mut session = Session::new(client, daemon);
     let mut status = Status::Read;
     while let Some(event) = session.next() {
-        if told_on_terminal {
-            progress.clear()?;
-        }
+        progress.make_way()?;
         status = after(&event);
-        if !matches!(event, Event::Handshake(_) | Event::Call(_)) {
-            progress.clear()?;
-        }
         view.event(&event)?;
         if progress.is_due() {
             view.flush()?;
             progress.draw(session.bytes_read())?;
         }
     }
-    view.flush()?;
     progress.clear()?;
+    view.flush()?;
     Ok(status)
 }
 
-fn view<'a>(out: impl Write + 'a, options: &Options, style: Style, recording: &'a Recording) -> Box<dyn View + 'a> {
-    let (client, daemon) = (&*recording.client, &*recording.daemon);
+fn view<'a>(client: &'a [u8], daemon: &'a [u8], options: &Options, style: Style, out: impl Write + 'a) -> Box<dyn View + 'a> {
     match (options.summary, options.json) {
         (false, false) => Box::new(Words::new(out, style, client, daemon)),
         (false, true) => Box::new(json::Json::new(out)),

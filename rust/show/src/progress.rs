@@ -9,14 +9,16 @@ const STEP: Duration = Duration::from_millis(200);
 /// The line that is drawn over and over; with no terminal there is none.
 pub struct Progress<W> {
     terminal: Option<W>,
+    /// Whether the session is told on the same terminal, call by call.
+    shared: bool,
     total: usize,
     due: Instant,
     drawn: bool,
 }
 
 impl<W: Write> Progress<W> {
-    pub fn new(terminal: Option<W>, total: usize) -> Progress<W> {
-        Progress { terminal, total, due: Instant::now() + PATIENCE, drawn: false }
+    pub fn new(terminal: Option<W>, shared: bool, total: usize) -> Progress<W> {
+        Progress { terminal, shared, total, due: Instant::now() + PATIENCE, drawn: false }
     }
 
     /// Whether it is time to draw the line again.
@@ -31,6 +33,15 @@ impl<W: Write> Progress<W> {
         let percent = done as u128 * 100 / self.total.max(1) as u128;
         write!(terminal, "\r\u{1b}[K{percent}% of {} MB", self.total / 1_000_000)?;
         terminal.flush()
+    }
+
+    /// Takes the line away where it would be in the way of a call.
+    pub fn make_way(&mut self) -> io::Result<()> {
+        if self.shared {
+            self.clear()
+        } else {
+            Ok(())
+        }
     }
 
     /// Takes the line away.
@@ -49,9 +60,10 @@ mod tests {
     #[test]
     fn a_line_is_drawn_and_taken_away_once() {
         let mut line = Vec::new();
-        let mut progress = Progress::new(Some(&mut line), 4_000_000);
+        let mut progress = Progress::new(Some(&mut line), false, 4_000_000);
         assert!(!progress.is_due());
         progress.draw(1_000_000).unwrap();
+        progress.make_way().unwrap();
         progress.clear().unwrap();
         progress.clear().unwrap();
         assert_eq!(line, b"\r\x1b[K25% of 4 MB\r\x1b[K");
@@ -59,7 +71,7 @@ mod tests {
 
     #[test]
     fn without_a_terminal_there_is_none() {
-        let mut progress: Progress<Vec<u8>> = Progress::new(None, 0);
+        let mut progress: Progress<Vec<u8>> = Progress::new(None, true, 0);
         progress.draw(0).unwrap();
         progress.clear().unwrap();
         assert!(!progress.is_due());

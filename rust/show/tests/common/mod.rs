@@ -1,0 +1,61 @@
+//! The recorded sessions of captures/, and the program as a user runs it.
+#![allow(dead_code)]
+use lintelow_show::{tell, Options, Progress, Status, Style};
+use std::fs;
+use std::path::{Path, PathBuf};
+use std::process::{Command, Output};
+
+pub fn captures() -> PathBuf {
+    Path::new(env!("CARGO_MANIFEST_DIR")).join("../../captures")
+}
+
+/// The folders of captures/ by name, in order.
+pub fn names() -> Vec<String> {
+    let folders = fs::read_dir(captures()).unwrap().map(|entry| entry.unwrap()).filter(|entry| entry.path().is_dir());
+    let mut names: Vec<String> = folders.map(|entry| entry.file_name().into_string().unwrap()).collect();
+    names.sort();
+    assert!(names.len() >= 12, "captures/ has {} folders", names.len());
+    names
+}
+
+pub fn streams(name: &str) -> (Vec<u8>, Vec<u8>) {
+    let read = |file| fs::read(captures().join(name).join(file)).unwrap();
+    (read("client.bin"), read("daemon.bin"))
+}
+
+pub fn program() -> Command {
+    Command::new(env!("CARGO_BIN_EXE_lintelow-show"))
+}
+
+pub fn status(output: &Output) -> i32 {
+    output.status.code().expect("the program ended by itself")
+}
+
+pub fn printed(output: &Output) -> &str {
+    std::str::from_utf8(&output.stdout).unwrap()
+}
+
+pub const JSON: Options = Options { json: true, summary: false, full: false, folder: PathBuf::new() };
+
+/// What is told of two streams in memory, and how that ends.
+pub fn told(client: &[u8], daemon: &[u8], options: &Options) -> (Status, String) {
+    let mut out = Vec::new();
+    let style = Style { colour: false, full: options.full };
+    let mut no_progress = Progress::new(None::<Vec<u8>>, false, 0);
+    let status = tell(client, daemon, options, style, &mut out, &mut no_progress).unwrap();
+    (status, String::from_utf8(out).unwrap())
+}
+
+/// A range `[start,end]` that follows some text in a JSON line.
+pub fn range_after(line: &str, text: &str) -> Option<(usize, usize)> {
+    let rest = &line[line.find(text)? + text.len()..];
+    let (start, rest) = rest.strip_prefix('[')?.split_once(',')?;
+    let (end, _) = rest.split_once(']')?;
+    Some((start.parse().ok()?, end.parse().ok()?))
+}
+
+/// A number that follows some text in a JSON line.
+pub fn number_after(line: &str, text: &str) -> Option<usize> {
+    let rest = &line[line.find(text)? + text.len()..];
+    rest[..rest.find(|c: char| !c.is_ascii_digit()).unwrap_or(rest.len())].parse().ok()
+}

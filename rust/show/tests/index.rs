@@ -1,0 +1,170 @@
+//! The byte ranges that are shown, against the sessions' indexes, which an independent decoder made by what the daemons really send. They are equal but
+//! where the Rust and document 01 read something else: those calls stand here, with what is done instead.
+mod common;
+
+use common::*;
+use std::fs;
+
+/// A call of an index: a line of index.tsv.
+struct Indexed {
+    op: u64,
+    version: String,
+    arguments: (usize, usize),
+    messages: (usize, usize),
+    outcome: (usize, usize),
+    is_error: bool,
+    fixed_end: usize,
+    name: String,
+}
+
+fn index(session: &str) -> Vec<Indexed> {
+    let text = fs::read_to_string(captures().join(session).join("index.tsv")).unwrap();
+    let calls = text.lines().filter(|line| !line.starts_with('#')).map(|line| {
+        let cells: Vec<&str> = line.split('\t').collect();
+        let number = |cell: usize| cells[cell].parse().unwrap();
+        Indexed {
+            op: cells[0].parse().unwrap(),
+            version: cells[1].to_owned(),
+            arguments: (number(2), number(3)),
+            messages: (number(4), number(5)),
+            outcome: (number(6), number(7)),
+            is_error: cells[8] == "error",
+            fixed_end: number(9),
+            name: cells[10].to_owned(),
+        }
+    });
+    calls.collect()
+}
+
+/// What ported mode does of a call that a daemon sends otherwise.
+#[derive(Debug, PartialEq, Eq, Clone, Copy)]
+enum Ported {
+    /// The reply or error block is read to another end.
+    Ends(usize),
+    /// It is refused, by a number at a place of the daemon's stream.
+    Refused(u64, usize),
+    /// The arguments are not read.
+    Unfollowed,
+    /// The handshake is refused, by a number: no call is read.
+    NoHandshake(u64),
+}
+
+/// The sessions with such a call; docs/DIFFERENCES.md explains each.
+const DIFFERENCES: [(&str, usize, Ported); 8] = [
+    // Reply 20 is a set and two numbers, and read as three numbers: the set's count, and the length and first eight bytes of its path.
+    ("n28-delete-0", 2, Ported::Ends(328)),
+    // Reply 38 is a bare archive, and read as framed: its first string's length as a chunk's, its padding as part of the next length.
+    ("n28-nglog-0", 2, Ported::Refused(1, 93)),
+    // Error blocks from 1.26 go on with a count of traces.
+    ("n28-fail-0", 5, Ported::Ends(2736)),
+    ("tr28-trace1-0", 5, Ported::Ends(1552)),
+    // Error blocks below 1.26 are a message and a number, and read as a type and a level.
+    ("n23-fail-0", 5, Ported::Refused(1, 2496)),
+    // A message that is not text.
+    ("fb28cmax-nb-0", 5, Ported::Refused(3, 2416)),
+    // Arguments that neither the Rust nor 01 reads.
+    ("n28-remotebuild-0", 4, Ported::Unfollowed),
+    // Another protocol.
+    ("srv28-copyclosure-0", 1, Ported::NoHandshake(6)),
+];
+
+fn difference(session: &str, call: usize) -> Option<Ported> {
+    DIFFERENCES.iter().find(|(name, index, _)| (*name, *index) == (session, call)).map(|(_, _, ported)| *ported)
+}
+
+#[test]
+fn ranges_are_those_of_the_index() {
+    for session in names() {
+        let (client, daemon) = streams(&session);
+        let (_, json) = told(&client, &daemon, &JSON);
+        let mut lines = json.lines();
+        let handshake = lines.next().unwrap();
+        for (number, indexed) in (1..).zip(index(&session)) {
+            let ported = difference(&session, number);
+            if let Some(Ported::NoHandshake(refusal)) = ported {
+                assert!(handshake
+                    .starts_with(&format!("{{\"event\":\"refusal\",\"call\":null,\"op\":null,\"part\":\"handshake\",\"refusal\":{refusal},")));
+                break;
+            }
+            let line = lines.next().unwrap_or_else(|| panic!("{session} has no call {number}"));
+            same_call(&session, number, line, &indexed);
+            match ported {
+                None => same_ranges(&session, number, line, &indexed),
+                Some(Ported::Ends(end)) => {
+                    assert_ne!(indexed.outcome.1, end, "{session}, call {number}: no difference");
+                    same_ranges(&session, number, line, &Indexed { outcome: (indexed.outcome.0, end), ..indexed });
+                }
+                Some(Ported::Refused(refusal, place)) => {
+                    same_arguments(&session, number, line, &indexed);
+                    assert_eq!(range_after(line, "\"messages\":{\"range\":"), Some(indexed.messages), "{session}, call {number}: {line}");
+                    let stop = lines.next().unwrap();
+                    assert!(stop.starts_with("{\"event\":\"refusal\""), "{session}: {stop}");
+                    assert_eq!(number_after(stop, "\"refusal\":"), Some(refusal as usize), "{session}: {stop}");
+                    assert_eq!(number_after(stop, "\"stream\":\"daemon\",\"place\":"), Some(place), "{session}: {stop}");
+                    assert!((indexed.outcome.0..=indexed.outcome.1).contains(&place));
+                    break;
+                }
+                Some(Ported::Unfollowed) => {
+                    let stop = lines.next().unwrap();
+                    assert!(stop.starts_with("{\"event\":\"unfollowed\""), "{session}: {stop}");
+                    assert_eq!(number_after(stop, "\"client\":"), Some(indexed.arguments.0), "{session}: {stop}");
+                    assert_eq!(number_after(stop, "\"daemon\":"), Some(indexed.messages.0), "{session}: {stop}");
+                    break;
+                }
+                Some(Ported::NoHandshake(_)) => (),
+            }
+        }
+    }
+}
+
+/// A session is whole where no call differs: nothing is left over.
+#[test]
+fn sessions_without_a_difference_are_read_to_the_last_byte() {
+    for session in names() {
+        if DIFFERENCES.iter().any(|(name, _, _)| *name == session) {
+            continue;
+        }
+        let (client, daemon) = streams(&session);
+        let (_, json) = told(&client, &daemon, &JSON);
+        let expected = format!("{{\"event\":\"end\",\"calls\":{},\"left\":[{1},{1}]}}", index(&session).len(), daemon.len());
+        assert_eq!(json.lines().last(), Some(expected.as_str()), "{session}");
+    }
+}
+
+/// Where the client's recording ends with a call, that many calls are told, and the rest of the daemon's bytes are left over.
+#[test]
+fn a_session_cut_behind_a_call() {
+    for session in names() {
+        let (client, daemon) = streams(&session);
+        for (number, indexed) in (1..).zip(index(&session)) {
+            if difference(&session, number).is_some() {
+                break;
+            }
+            let (_, json) = told(&client[..indexed.arguments.1], &daemon, &JSON);
+            let expected = format!("{{\"event\":\"end\",\"calls\":{number},\"left\":[{},{}]}}", indexed.outcome.1, daemon.len());
+            assert_eq!(json.lines().last(), Some(expected.as_str()), "{session}, call {number}");
+        }
+    }
+}
+
+fn same_call(session: &str, number: usize, line: &str, indexed: &Indexed) {
+    let Indexed { op, version, name, .. } = indexed;
+    let start = indexed.arguments.0;
+    let expected = format!(
+        "{{\"event\":\"call\",\"call\":{number},\"op\":{op},\"name\":\"{name}\",\"version\":\"{version}\",\"number\":[{},{start}]",
+        start - 8
+    );
+    assert!(line.starts_with(&expected), "{session}: {line}\nis not {expected}");
+}
+
+fn same_arguments(session: &str, number: usize, line: &str, indexed: &Indexed) {
+    assert_eq!(range_after(line, "\"arguments\":{\"range\":"), Some(indexed.arguments), "{session}, call {number}: {line}");
+    assert_eq!(number_after(line, "\"fixed_end\":"), Some(indexed.fixed_end), "{session}, call {number}: {line}");
+}
+
+fn same_ranges(session: &str, number: usize, line: &str, indexed: &Indexed) {
+    same_arguments(session, number, line, indexed);
+    assert_eq!(range_after(line, "\"messages\":{\"range\":"), Some(indexed.messages), "{session}, call {number}: {line}");
+    let outcome = if indexed.is_error { "\"error\":{\"range\":" } else { "\"reply\":{\"range\":" };
+    assert_eq!(range_after(line, outcome), Some(indexed.outcome), "{session}, call {number}: {line}");
+}
