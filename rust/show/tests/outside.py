@@ -1,0 +1,102 @@
+"""What is seen from outside: JSON that another program parses, colours and the progress line on a terminal.
+
+    outside.py PROGRAM CAPTURES FOLDER
+
+Runs PROGRAM over the recorded sessions of CAPTURES, and over a long one that it makes below FOLDER.
+"""
+import json
+import os
+import pty
+import select
+import subprocess
+import sys
+from pathlib import Path
+
+program, captures, folder = sys.argv[1], Path(sys.argv[2]), Path(sys.argv[3])
+LAST = 0x616C7473
+
+
+def numbers(*values):
+    return b"".join(value.to_bytes(8, "little") for value in values)
+
+
+def on_terminal(arguments, environment=None, stdout=None):
+    """What the program writes to a terminal; where stdout is given, its standard output goes there."""
+    ours, theirs = pty.openpty()
+    variables = {key: value for key, value in os.environ.items() if key != "NO_COLOR"}
+    variables.update({"TERM": "xterm"}, **(environment or {}))
+    run = subprocess.Popen([program, *arguments], env=variables, stdin=theirs, stdout=stdout or theirs, stderr=theirs)
+    os.close(theirs)
+    written = b""
+    while True:
+        select.select([ours], [], [])
+        try:
+            part = os.read(ours, 65536)
+        except OSError:  # the other side is closed
+            break
+        if not part:
+            break
+        written += part
+    os.close(ours)
+    return run.wait(), written
+
+
+def json_parses():
+    count = 0
+    for session in sorted(path for path in captures.iterdir() if path.is_dir()):
+        for options in (["--json"], ["--json", "--summary"]):
+            run = subprocess.run([program, *options, str(session)], capture_output=True, check=False)
+            events = [json.loads(line) for line in run.stdout.splitlines()]
+            last = events[-1]["event"]
+            assert {"end": 0, "refusal": 1, "unfollowed": 3}[last] == run.returncode, (session, last, run.returncode)
+            kinds = [event["event"] for event in events[:-1]]
+            if "--summary" in options:
+                assert kinds == ["summary"], (session, kinds)
+            elif kinds:
+                assert kinds == ["handshake"] + ["call"] * (len(kinds) - 1), (session, kinds)
+            count += len(events)
+    return f"{count} lines of JSON parse"
+
+
+def colours_on_a_terminal_only():
+    session = str(captures / "n28-fail-0")
+    _, coloured = on_terminal([session])
+    assert b"\x1b[1mcall 1" in coloured and b"\x1b[1;31m" in coloured
+    for environment in ({"NO_COLOR": "1"}, {"TERM": "dumb"}):
+        _, plain = on_terminal([session], environment)
+        assert b"\x1b" not in plain and b"call 1" in plain
+    piped = subprocess.run([program, session], capture_output=True, check=False)
+    assert b"\x1b" not in piped.stdout + piped.stderr
+    return "colours on a terminal only, and not with NO_COLOR"
+
+
+def long_recording(calls):
+    """A recording of calls of SyncWithGC, which has no arguments and a number for reply."""
+    session = folder / "long"
+    session.mkdir(parents=True, exist_ok=True)
+    handshake = captures / "n28-build-0"
+    (session / "client.bin").write_bytes((handshake / "client.bin").read_bytes()[:32] + numbers(13) * calls)
+    (session / "daemon.bin").write_bytes((handshake / "daemon.bin").read_bytes()[:40] + numbers(LAST, 1) * calls)
+    return session
+
+
+def progress_on_a_terminal_only():
+    calls = 100_000
+    while True:
+        session = long_recording(calls)
+        run = subprocess.run(["/bin/sh", "-c", 'time -p "$0" --json "$1" >/dev/null', program, str(session)], capture_output=True, check=True)
+        seconds = float(run.stderr.split()[1])
+        if seconds > 1.5:
+            break
+        calls *= 2
+    status, line = on_terminal(["--json", str(session)], stdout=subprocess.DEVNULL)
+    assert status == 0
+    assert b"% of " in line and line.endswith(b"\r\x1b[K"), line[-100:]
+    for file in session.iterdir():
+        file.unlink()
+    session.rmdir()
+    return f"a progress line over {calls} calls, {seconds} s"
+
+
+for test in (json_parses, colours_on_a_terminal_only, progress_on_a_terminal_only):
+    print(test())
