@@ -3,7 +3,7 @@ use crate::line::Line;
 use crate::request::Request;
 use crate::{conversation, primitives};
 use anyhow::Result;
-use nix_wire::wire_async::{AsyncWireReader, MemReader};
+use crate::wire_async::{AsyncWireReader, MemReader};
 use std::any::Any;
 use std::fmt;
 use std::future::Future;
@@ -65,14 +65,22 @@ fn by_call(q: &Request) -> Answer {
     }
 }
 
-// `Vec::with_capacity` panics by this for a count that no stream can hold.
+/// What a panic says that stands for memory that ran out; without such a panic the process ends.
+pub const NO_MEMORY: &str = "no memory";
+
+// `Vec::with_capacity` panics for a count that no stream can hold.
 fn is_large_count(cause: &(dyn Any + Send)) -> bool {
     let text = cause.downcast_ref::<String>().map(String::as_str);
-    text.or(cause.downcast_ref::<&str>().copied()) == Some("capacity overflow")
+    let text = text.or(cause.downcast_ref::<&str>().copied());
+    text == Some("capacity overflow") || text == Some(NO_MEMORY)
+}
+
+/// No words about panics, which are answers here.
+pub fn silence() {
+    panic::set_hook(Box::new(|_| {}));
 }
 
 pub fn answer(q: &Request) -> Answer {
-    panic::set_hook(Box::new(|_| {}));
     panic::catch_unwind(|| by_call(q)).unwrap_or_else(|cause| {
         if is_large_count(&*cause) {
             Answer::Out

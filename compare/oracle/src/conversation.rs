@@ -3,9 +3,9 @@ use crate::answer::{over, position, run, Answer};
 use crate::line::Line;
 use crate::request::Request;
 use anyhow::Result;
-use nix_wire::ops::Op;
-use nix_wire::protocol::{self, HandshakeInfo, StderrResult};
-use nix_wire::script::{ErrorInfo, FramedData, OpCall, PathInfoResult, ResultData};
+use crate::ops::Op;
+use crate::protocol::{self, HandshakeInfo, StderrResult};
+use crate::script::{ErrorInfo, FramedData, OpCall, PathInfoResult, ResultData};
 
 pub fn answer(q: &Request) -> Answer {
     match q.call {

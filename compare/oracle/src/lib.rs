@@ -1,4 +1,5 @@
-//! The crate root that our text of nix-wire lacks. The modules are the files of ../../nix-wire/src, which the build puts here unchanged.
+//! nix-wire with requests for it: what to ask, and how its answers are said. Our text of nix-wire lacks a crate root: its modules are the files of
+//! ../../nix-wire/src, which the build puts here unchanged.
 pub mod handshake;
 pub mod ops;
 pub mod protocol;
@@ -6,3 +7,15 @@ pub mod script;
 pub mod stderr;
 pub mod wire;
 pub mod wire_async;
+
+pub mod answer;
+mod conversation;
+mod damage;
+mod dice;
+pub mod generate;
+mod layouts;
+pub mod line;
+mod primitives;
+pub mod request;
+mod stream;
+mod tables;

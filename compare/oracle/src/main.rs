@@ -1,18 +1,7 @@
 //! `oracle generate SEED COUNT` writes requests for the probe; `oracle answer` reads requests and writes what nix-wire answers, a line for each.
 //! docs/DECISIONS.md, "The probe", has the form of requests and lines.
-mod answer;
-mod conversation;
-mod damage;
-mod dice;
-mod generate;
-mod layouts;
-mod line;
-mod primitives;
-mod request;
-mod stream;
-mod tables;
-
-use request::Request;
+use oracle::request::Request;
+use oracle::{answer, generate};
 use std::io::{self, BufWriter, Write};
 
 fn generate(seed: u64, count: usize) -> io::Result<()> {
@@ -34,6 +23,7 @@ fn answer() -> io::Result<()> {
 }
 
 fn main() -> io::Result<()> {
+    answer::silence();
     let words: Vec<String> = std::env::args().skip(1).collect();
     let words: Vec<&str> = words.iter().map(String::as_str).collect();
     match words[..] {

@@ -3,10 +3,10 @@ use crate::answer::{over, position, run, Answer};
 use crate::line::Line;
 use crate::request::Request;
 use anyhow::{Context, Result};
-use nix_wire::handshake::ProtocolVersion;
-use nix_wire::ops::Op;
-use nix_wire::script::OpCall;
-use nix_wire::{protocol, wire};
+use crate::handshake::ProtocolVersion;
+use crate::ops::Op;
+use crate::script::OpCall;
+use crate::{protocol, wire};
 
 pub fn read(q: &Request) -> Answer {
     read_call(q).into()

@@ -1,5 +1,5 @@
 //! A request as it stands in the probe's input.
-use nix_wire::handshake::ProtocolVersion;
+use crate::handshake::ProtocolVersion;
 use std::io::{self, Read, Write};
 
 #[derive(Clone, Default)]

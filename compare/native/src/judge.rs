@@ -1,0 +1,111 @@
+//! Holds the two answers to a request against each other. compare/hold.py does the same with the probe's lines.
+use crate::ours::{Said, Success};
+use oracle::answer::Answer;
+use oracle::line::Line;
+use oracle::request::Request;
+
+#[derive(Clone, Copy, PartialEq, Eq)]
+pub enum Verdict {
+    Same,
+    Refused,
+    /// Short of slots or room.
+    Short,
+    Out,
+    Different,
+}
+
+impl Verdict {
+    pub const ALL: [Verdict; 5] = [Verdict::Same, Verdict::Refused, Verdict::Short, Verdict::Out, Verdict::Different];
+
+    pub fn name(self) -> &'static str {
+        ["same", "refused", "short", "out", "DIFFERENT"][self as usize]
+    }
+}
+
+fn takes_slots(call: u64) -> bool {
+    matches!(call, 1 | 3 | 6 | 7 | 8 | 14)
+}
+
+fn takes_room(call: u64) -> bool {
+    matches!(call, 1 | 3 | 16)
+}
+
+fn writes(call: u64) -> bool {
+    matches!(call, 20..=28)
+}
+
+/// The refusals of which one is due for want of slots or room.
+fn shortage(q: &Request, rust: &Line) -> Vec<u64> {
+    let is_over = rust.payload.len() as u64 > q.room;
+    let mut due = Vec::new();
+    if takes_slots(q.call) && rust.strings.len() as u64 > q.slots {
+        due.push(4);
+    }
+    if takes_room(q.call) && is_over {
+        due.push(5);
+    }
+    if writes(q.call) && is_over {
+        due.push(10);
+    }
+    due
+}
+
+/// The strings that the entries point at, or None where one does not stand behind its length.
+fn strings<'q>(q: &'q Request, a: &Success) -> Option<Vec<&'q [u8]>> {
+    let string = |(i, entry): (usize, &lintelow::Entry)| {
+        let is_client = q.call != 8 && (q.call != 7 || (i as u64) < a.counts[0]);
+        let stream = if is_client { &q.a } else { &q.b };
+        let before = stream.get(entry.start.checked_sub(8)?..entry.start)?;
+        let is_behind_length = before == (entry.length as u64).to_le_bytes();
+        let end = entry.start.checked_add(entry.length)?;
+        stream.get(entry.start..end).filter(|_| is_behind_length)
+    };
+    a.entries.iter().enumerate().map(string).collect()
+}
+
+/// Where nix-wire answers a text, ours is a kind and a number.
+fn worded(q: &Request, a: &Success) -> Option<String> {
+    match (q.call, a.kind) {
+        (2, 1) => Some(String::new()),
+        (2, 3) => Some(format!("{} paths", a.numbers[0])),
+        (2, 4) => Some(format!("{} overrides", a.numbers[0])),
+        _ => None,
+    }
+}
+
+fn are_same_strings(q: &Request, rust: &Line, a: &Success) -> bool {
+    match worded(q, a) {
+        Some(text) => a.entries.is_empty() && rust.strings == [text.into_bytes()],
+        None => strings(q, a).is_some_and(|found| rust.strings == found),
+    }
+}
+
+fn is_same(q: &Request, rust: &Line, a: &Success) -> bool {
+    (rust.kind, rust.end, rust.end2) == (a.kind, a.end, a.end2)
+        && rust.numbers == a.numbers
+        && rust.counts == a.counts
+        && rust.payload == a.payload
+        && are_same_strings(q, rust, a)
+}
+
+fn against(q: &Request, rust: &Line, ours: &Said) -> Verdict {
+    let due = shortage(q, rust);
+    match &ours.answer {
+        Err(r) if due.contains(&r.number) => Verdict::Short,
+        Ok(a) if due.is_empty() && is_same(q, rust, a) => Verdict::Same,
+        _ => Verdict::Different,
+    }
+}
+
+pub fn judge(q: &Request, rust: &Answer, ours: &Said) -> Verdict {
+    let is_known = |number| (1..=12).contains(&number);
+    if !ours.is_kept || ours.answer.as_ref().is_err_and(|r| !is_known(r.number)) {
+        return Verdict::Different;
+    }
+    match rust {
+        Answer::Out => Verdict::Out,
+        Answer::No if ours.answer.is_err() => Verdict::Refused,
+        Answer::Ok(line) => against(q, line, ours),
+        _ => Verdict::Different,
+    }
+}

@@ -1,0 +1,44 @@
+//! nix-wire and the static library in one process.
+//! `native requests SEED COUNT THREADS` holds their answers against each other, over the requests of `oracle generate SEED COUNT`.
+//! `native text STRIDE THREADS` holds the library's text against Rust's `from_utf8`: all strings of up to three bytes, and of those of four that begin with
+//! E0 or above every STRIDE-th.
+//! Exit status: 0 no difference, 1 a difference, 2 bad usage.
+#![feature(alloc_error_hook)]
+mod judge;
+mod lent;
+mod memory;
+mod ours;
+mod requests;
+mod tally;
+mod text;
+
+use std::process::ExitCode;
+
+fn main() -> ExitCode {
+    oracle::answer::silence();
+    memory::panic_without();
+    let words: Vec<String> = std::env::args().skip(1).collect();
+    let words: Vec<&str> = words.iter().map(String::as_str).collect();
+    let number = |word: &str| word.parse().ok().filter(|&n: &usize| n > 0);
+    let is_fine = match words[..] {
+        ["requests", seed, count, threads] => match (seed.parse(), number(count), number(threads)) {
+            (Ok(seed), Some(count), Some(threads)) => requests::run(seed, count, threads),
+            _ => usage(),
+        },
+        ["text", stride, threads] => match (number(stride), number(threads)) {
+            (Some(stride), Some(threads)) => text::run(stride, threads),
+            _ => usage(),
+        },
+        _ => usage(),
+    };
+    if is_fine {
+        ExitCode::SUCCESS
+    } else {
+        ExitCode::FAILURE
+    }
+}
+
+fn usage() -> ! {
+    eprintln!("usage: native requests SEED COUNT THREADS | native text STRIDE THREADS");
+    std::process::exit(2)
+}

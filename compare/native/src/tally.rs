@@ -1,0 +1,97 @@
+//! Counts by call and verdict, and the smallest request that differs.
+use crate::judge::Verdict;
+use crate::ours::NAMES;
+use oracle::request::Request;
+
+struct Difference {
+    index: usize,
+    request: Request,
+    hex: String,
+    rust: String,
+    ours: String,
+}
+
+impl Difference {
+    fn size(&self) -> (usize, usize) {
+        (self.hex.len(), self.index)
+    }
+}
+
+#[derive(Default)]
+pub struct Tally {
+    counts: Vec<[u64; 5]>,
+    smallest: Option<Difference>,
+}
+
+fn row(call: u64) -> usize {
+    let found = NAMES.iter().position(|&(c, _)| c == call);
+    found.expect("only calls that are compared are counted")
+}
+
+impl Tally {
+    pub fn new() -> Tally {
+        Tally { counts: vec![[0; 5]; NAMES.len()], smallest: None }
+    }
+
+    pub fn count(&mut self, call: u64, verdict: Verdict) {
+        self.counts[row(call)][verdict as usize] += 1;
+    }
+
+    pub fn differs(&mut self, index: usize, q: &Request, rust: String, ours: String) {
+        let mut raw = Vec::new();
+        q.write(&mut raw).expect("memory takes what is written");
+        self.keep(Difference { index, request: q.clone(), hex: raw.iter().map(|b| format!("{b:02x}")).collect(), rust, ours });
+    }
+
+    fn keep(&mut self, d: Difference) {
+        if self.smallest.as_ref().is_none_or(|s| d.size() < s.size()) {
+            self.smallest = Some(d);
+        }
+    }
+
+    pub fn add(&mut self, other: Tally) {
+        for (all, more) in self.counts.iter_mut().zip(other.counts) {
+            all.iter_mut().zip(more).for_each(|(x, y)| *x += y);
+        }
+        other.smallest.into_iter().for_each(|d| self.keep(d));
+    }
+
+    fn total(&self, verdict: Verdict) -> u64 {
+        self.counts.iter().map(|c| c[verdict as usize]).sum()
+    }
+
+    pub fn all(&self) -> u64 {
+        Verdict::ALL.iter().map(|&v| self.total(v)).sum()
+    }
+
+    pub fn differences(&self) -> u64 {
+        self.total(Verdict::Different)
+    }
+
+    pub fn print(&self) {
+        let line = |name: &str, words: [String; 5]| {
+            let cells: String = words.iter().map(|w| format!("{w:>11}")).collect();
+            println!("{name:<30}{cells}");
+        };
+        line("call", Verdict::ALL.map(|v| v.name().to_string()));
+        for (&(call, name), counts) in NAMES.iter().zip(&self.counts) {
+            line(&format!("{call:>2} {name}"), counts.map(|n| n.to_string()));
+        }
+        line("all", Verdict::ALL.map(|v| self.total(v).to_string()));
+        if let Some(d) = &self.smallest {
+            let q = &d.request;
+            println!(
+                "\nthe smallest of {} that differ, request {}, call {}, operation {}, version {}.{}:\n{}\nrust: {}\nours: {}",
+                self.differences(),
+                d.index,
+                q.call,
+                q.operation,
+                q.major,
+                q.minor,
+                d.hex,
+                d.rust,
+                d.ours
+            );
+        }
+    }
+}
