@@ -2,10 +2,12 @@
 //! `native requests SEED COUNT THREADS` holds their answers against each other, over the requests of `oracle generate SEED COUNT`.
 //! `native text STRIDE THREADS` holds the library's text against Rust's `from_utf8`: all strings of up to three bytes, and of those of four that begin with
 //! E0 or above every STRIDE-th.
+//! `native limit` holds their answers to strings and chunks of the limit and above against each other.
 //! Exit status: 0 no difference, 1 a difference, 2 bad usage.
 #![feature(alloc_error_hook)]
 mod judge;
 mod lent;
+mod limit;
 mod memory;
 mod ours;
 mod requests;
@@ -29,6 +31,7 @@ fn main() -> ExitCode {
             (Some(stride), Some(threads)) => text::run(stride, threads),
             _ => usage(),
         },
+        ["limit"] => limit::run(),
         _ => usage(),
     };
     if is_fine {
@@ -39,6 +42,6 @@ fn main() -> ExitCode {
 }
 
 fn usage() -> ! {
-    eprintln!("usage: native requests SEED COUNT THREADS | native text STRIDE THREADS");
+    eprintln!("usage: native requests SEED COUNT THREADS | native text STRIDE THREADS | native limit");
     std::process::exit(2)
 }

@@ -4,32 +4,61 @@ use lintelow::{raw, Answer, Entry, Refusal, Version};
 use oracle::request::Request;
 use std::fmt;
 
-/// The calls that are compared.
-pub const NAMES: [(u64, &str); 8] = [
-    (1, "read_op_args"),
-    (2, "skip_op_args"),
-    (3, "read_daemon_result"),
-    (4, "skip_daemon_result"),
-    (5, "read_stderr_loop"),
-    (6, "read_stderr_with_error"),
-    (7, "parse_handshake"),
-    (8, "parse_daemon_handshake"),
+/// What a call is given. `s` from `at` on is `a`.
+struct Asked<'q> {
+    op: u64,
+    version: Version,
+    a: &'q [u8],
+    b: &'q [u8],
+    s: &'q [u8],
+    at: usize,
+}
+
+type Ask = for<'r> fn(Asked, &'r mut [u8], &'r mut [u8]) -> Result<Answer<'r>, Refusal>;
+
+/// The calls that are compared, each with room for entries and for bytes lent to it.
+const CALLS: [(u64, &str, Ask); 29] = [
+    (1, "read_op_args", |q, e, p| raw::read_op_args(q.op, q.version, q.a, e, p)),
+    (2, "skip_op_args", |q, _, _| raw::skip_op_args(q.op, q.version, q.a)),
+    (3, "read_daemon_result", |q, e, p| raw::read_daemon_result(q.op, q.version, q.a, e, p)),
+    (4, "skip_daemon_result", |q, _, _| raw::skip_daemon_result(q.op, q.version, q.a)),
+    (5, "read_stderr_loop", |q, _, _| raw::read_stderr_loop(q.a)),
+    (6, "read_stderr_with_error", |q, e, _| raw::read_stderr_with_error(q.a, e)),
+    (7, "parse_handshake", |q, e, _| raw::parse_handshake(q.a, q.b, e)),
+    (8, "parse_daemon_handshake", |q, e, _| raw::parse_daemon_handshake(q.version, q.b, e)),
+    (9, "read_u64", |q, _, _| raw::read_u64(q.s, q.at)),
+    (10, "read_u32", |q, _, _| raw::read_u32(q.s, q.at)),
+    (11, "read_bytes", |q, _, _| raw::read_bytes(q.s, q.at)),
+    (12, "read_string", |q, _, _| raw::read_string(q.s, q.at)),
+    (13, "skip_string", |q, _, _| raw::skip_string(q.s, q.at)),
+    (14, "read_string_set", |q, e, _| raw::read_string_set(q.s, q.at, e)),
+    (15, "skip_string_set", |q, _, _| raw::skip_string_set(q.s, q.at)),
+    (16, "read_framed", |q, _, p| raw::read_framed(q.s, q.at, p)),
+    (17, "skip_framed", |q, _, _| raw::skip_framed(q.s, q.at)),
+    (18, "peek_u64", |q, _, _| raw::peek_u64(q.s, q.at)),
+    (20, "write_u64", |q, _, p| raw::write_u64(p, q.op)),
+    (21, "write_u32", |q, _, p| raw::write_u32(p, q.op as u32)),
+    (22, "write_bytes", |q, _, p| raw::write_bytes(p, q.a)),
+    (23, "write_string", |q, _, p| raw::write_string(p, q.a)),
+    (24, "write_string_set", |q, _, p| raw::write_string_set(p, q.a, q.b, q.op as usize)),
+    (26, "mode text", |q, _, p| raw::write_mode(p, q.op)),
+    (27, "N paths", |q, _, p| raw::write_paths(p, q.op)),
+    (28, "N overrides", |q, _, p| raw::write_overrides(p, q.op)),
+    (30, "extract_store_path", |q, _, _| raw::extract_store_path(q.a)),
+    (31, "op_has_client_framed_data", |q, _, _| raw::op_has_client_framed_data(q.op)),
+    (33, "version from wire", |q, _, _| raw::version_from_wire(q.op)),
 ];
 
-fn call<'r>(q: &Request, _s: &[u8], _at: usize, lent: &'r mut Lent) -> Result<Answer<'r>, Refusal> {
-    let (op, v) = (q.operation, Version::new(q.major as u16, q.minor as u8));
+/// The number and the name of each call that is compared.
+pub fn calls() -> impl Iterator<Item = (u64, &'static str)> {
+    CALLS.iter().map(|&(call, name, _)| (call, name))
+}
+
+fn call<'r>(q: &Request, s: &[u8], at: usize, lent: &'r mut Lent) -> Result<Answer<'r>, Refusal> {
+    let (_, _, ask) = CALLS.iter().find(|&&(call, ..)| call == q.call).expect("only calls that are compared are asked");
+    let version = Version::new(q.major as u16, q.minor as u8);
     let (entries, room) = lent.parts();
-    match q.call {
-        1 => raw::read_op_args(op, v, &q.a, entries, room),
-        2 => raw::skip_op_args(op, v, &q.a),
-        3 => raw::read_daemon_result(op, v, &q.a, entries, room),
-        4 => raw::skip_daemon_result(op, v, &q.a),
-        5 => raw::read_stderr_loop(&q.a),
-        6 => raw::read_stderr_with_error(&q.a, entries),
-        7 => raw::parse_handshake(&q.a, &q.b, entries),
-        8 => raw::parse_daemon_handshake(v, &q.b, entries),
-        _ => unreachable!("only calls that are compared are asked"),
-    }
+    ask(Asked { op: q.operation, version, a: &q.a, b: &q.b, s, at }, entries, room)
 }
 
 pub struct Success {

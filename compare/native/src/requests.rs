@@ -1,7 +1,7 @@
 //! The requests of a seed, answered by both.
 use crate::judge::{judge, Verdict};
 use crate::lent::Lent;
-use crate::ours::{ask, NAMES};
+use crate::ours::ask;
 use crate::tally::Tally;
 use oracle::answer::answer;
 use oracle::generate;
@@ -26,17 +26,13 @@ fn work(next: &Mutex<impl Iterator<Item = Numbered>>) -> Tally {
         if batch.is_empty() {
             return tally;
         }
-        for (index, q) in batch.iter().filter(|(_, q)| is_compared(q)) {
-            one(*index, q, &mut lent, &mut tally);
+        for (index, q) in batch {
+            one(index, &q, &mut lent, &mut tally);
         }
     }
 }
 
-fn is_compared(q: &Request) -> bool {
-    NAMES.iter().any(|&(call, _)| call == q.call)
-}
-
-fn one(index: usize, q: &Request, lent: &mut Lent, tally: &mut Tally) {
+pub fn one(index: usize, q: &Request, lent: &mut Lent, tally: &mut Tally) {
     let rust = answer(q);
     let ours = ask(q, lent);
     let verdict = judge(q, &rust, &ours);
@@ -58,6 +54,5 @@ pub fn run(seed: u64, count: usize, threads: usize) -> bool {
         }
     });
     tally.print();
-    println!("\nnative: {} requests of seed {seed}, {} differences, {:.1} s", tally.all(), tally.differences(), began.elapsed().as_secs_f64());
-    tally.differences() == 0
+    tally.conclude(&format!("of seed {seed}"), began)
 }

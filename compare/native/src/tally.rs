@@ -1,11 +1,13 @@
 //! Counts by call and verdict, and the smallest request that differs.
 use crate::judge::Verdict;
-use crate::ours::NAMES;
+use crate::ours::calls;
 use oracle::request::Request;
+use std::time::Instant;
 
 struct Difference {
+    length: usize,
     index: usize,
-    request: Request,
+    which: String,
     hex: String,
     rust: String,
     ours: String,
@@ -13,7 +15,7 @@ struct Difference {
 
 impl Difference {
     fn size(&self) -> (usize, usize) {
-        (self.hex.len(), self.index)
+        (self.length, self.index)
     }
 }
 
@@ -23,14 +25,28 @@ pub struct Tally {
     smallest: Option<Difference>,
 }
 
+// No line is longer.
+const LONGEST: usize = 1 << 20;
+
+fn cut<S: AsRef<str>>(words: impl IntoIterator<Item = S>) -> String {
+    let mut line = String::new();
+    for word in words {
+        if line.len() + word.as_ref().len() > LONGEST {
+            return line + " and more";
+        }
+        line += word.as_ref();
+    }
+    line
+}
+
 fn row(call: u64) -> usize {
-    let found = NAMES.iter().position(|&(c, _)| c == call);
+    let found = calls().position(|(c, _)| c == call);
     found.expect("only calls that are compared are counted")
 }
 
 impl Tally {
     pub fn new() -> Tally {
-        Tally { counts: vec![[0; 5]; NAMES.len()], smallest: None }
+        Tally { counts: vec![[0; 5]; calls().count()], smallest: None }
     }
 
     pub fn count(&mut self, call: u64, verdict: Verdict) {
@@ -40,7 +56,14 @@ impl Tally {
     pub fn differs(&mut self, index: usize, q: &Request, rust: String, ours: String) {
         let mut raw = Vec::new();
         q.write(&mut raw).expect("memory takes what is written");
-        self.keep(Difference { index, request: q.clone(), hex: raw.iter().map(|b| format!("{b:02x}")).collect(), rust, ours });
+        self.keep(Difference {
+            length: raw.len(),
+            index,
+            which: format!("request {index}, call {}, operation {}, version {}.{}", q.call, q.operation, q.major, q.minor),
+            hex: cut(raw.iter().map(|b| format!("{b:02x}"))),
+            rust: cut([rust]),
+            ours: cut([ours]),
+        });
     }
 
     fn keep(&mut self, d: Difference) {
@@ -60,12 +83,15 @@ impl Tally {
         self.counts.iter().map(|c| c[verdict as usize]).sum()
     }
 
-    pub fn all(&self) -> u64 {
-        Verdict::ALL.iter().map(|&v| self.total(v)).sum()
+    fn differences(&self) -> u64 {
+        self.total(Verdict::Different)
     }
 
-    pub fn differences(&self) -> u64 {
-        self.total(Verdict::Different)
+    /// The last line: is there no difference?
+    pub fn conclude(&self, which: &str, began: Instant) -> bool {
+        let all: u64 = Verdict::ALL.iter().map(|&v| self.total(v)).sum();
+        println!("\nnative: {all} requests {which}, {} differences, {:.1} s", self.differences(), began.elapsed().as_secs_f64());
+        self.differences() == 0
     }
 
     pub fn print(&self) {
@@ -74,24 +100,12 @@ impl Tally {
             println!("{name:<30}{cells}");
         };
         line("call", Verdict::ALL.map(|v| v.name().to_string()));
-        for (&(call, name), counts) in NAMES.iter().zip(&self.counts) {
+        for ((call, name), counts) in calls().zip(&self.counts) {
             line(&format!("{call:>2} {name}"), counts.map(|n| n.to_string()));
         }
         line("all", Verdict::ALL.map(|v| self.total(v).to_string()));
         if let Some(d) = &self.smallest {
-            let q = &d.request;
-            println!(
-                "\nthe smallest of {} that differ, request {}, call {}, operation {}, version {}.{}:\n{}\nrust: {}\nours: {}",
-                self.differences(),
-                d.index,
-                q.call,
-                q.operation,
-                q.major,
-                q.minor,
-                d.hex,
-                d.rust,
-                d.ours
-            );
+            println!("\nthe smallest of {} that differ, {}:\n{}\nrust: {}\nours: {}", self.differences(), d.which, d.hex, d.rust, d.ours);
         }
     }
 }

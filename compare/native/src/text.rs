@@ -51,7 +51,7 @@ fn try_all(part: &Part, tally: &mut Tally) {
     for x in part.numbers.clone().step_by(part.stride) {
         stream[contents.clone()].copy_from_slice(&x.to_be_bytes()[8 - part.length..]);
         let is_text = str::from_utf8(&stream[contents.clone()]).is_ok();
-        let said = raw::skip_op_args(1, lintelow::Version::new(1, 38), &stream[..whole]);
+        let said = raw::read_string(&stream[..whole], 0);
         let is_right = match &said {
             Ok(a) => is_text && a.end == whole && a.own_entry() == Entry { start: CONTENTS, length: part.length },
             Err(r) => !is_text && (r.number, r.place, r.stream) == (3, CONTENTS, 0),
