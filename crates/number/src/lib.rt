@@ -23,22 +23,19 @@ fn four(s: &[u8]) -> u64
     wide(s[0]) + 256 * (wide(s[1]) + 256 * (wide(s[2]) + 256 * wide(s[3])))
 }
 
+// By `|` and `<<`, which stay one load in a caller that asks for the number's last bits too; sums and products fall apart there.
 fn eight(s: &[u8]) -> u64
     requires { ⌜ 8 ≤ length (now s) ⌝ }
     ensures { λ r. ⌜ r ≡ littleAt 8 (now (s .entry)) 0 ⌝ }
 {
     wide(s[0])
-        + 256
-            * (wide(s[1])
-                + 256
-                    * (wide(s[2])
-                        + 256
-                            * (wide(s[3])
-                                + 256
-                                    * (wide(s[4])
-                                        + 256
-                                            * (wide(s[5])
-                                                + 256 * (wide(s[6]) + 256 * wide(s[7])))))))
+        | (wide(s[1]) << 8)
+        | (wide(s[2]) << 16)
+        | (wide(s[3]) << 24)
+        | (wide(s[4]) << 32)
+        | (wide(s[5]) << 40)
+        | (wide(s[6]) << 48)
+        | (wide(s[7]) << 56)
 }
 
 // The number that s begins with.
