@@ -1,0 +1,137 @@
+// Replays a list of requests that the Rust answered once: makes each call by the C boundary and holds the answer against the Rust's. compare/README.md,
+// "The list", says how the list is made.
+mod calls;
+mod hold;
+mod lent;
+mod list;
+
+use list::Request;
+
+// The longest list, 511 slots, and room for the longest payload of a list.
+const LIST: usize = 1048576;
+
+const ENTRIES: usize = 8176;
+
+const ROOM: usize = 4096;
+
+// `first` is the first request that differs, counted from 0; without one it is no request's number.
+struct Tally {
+    requests: u64,
+    same: u64,
+    refused: u64,
+    first: u64,
+}
+
+fn one_more(n: u64, is_one: bool) -> u64 {
+    if n == u64::MAX {
+        return n;
+    }
+    if is_one {
+        return n + 1;
+    }
+    n
+}
+
+fn first_of(t: Tally, is_same: bool) -> u64 {
+    if is_same | (t.first < t.requests) {
+        return t.first;
+    }
+    t.requests
+}
+
+fn counted(t: Tally, is_same: bool, is_refusal: bool) -> Tally {
+    Tally {
+        requests: one_more(t.requests, true),
+        same: one_more(t.same, is_same),
+        refused: one_more(t.refused, is_same & is_refusal),
+        first: first_of(t, is_same),
+    }
+}
+
+// One call on lent memory that holds the pattern.
+fn is_same(
+    q: Request,
+    a: &[u8],
+    b: &[u8],
+    said: &[u8],
+    entries: &mut [u8],
+    room: &mut [u8],
+) -> bool {
+    let mut block = [0u8; 200];
+    lent::fill(entries);
+    lent::fill(room);
+    let refusal = calls::answer(q, a, b, entries, room, &mut block);
+    if refusal == 0 {
+        return hold::is_answer(q.call, a, b, said, entries, room, &block);
+    }
+    hold::is_refusal(said, refusal, entries, room)
+}
+
+fn slots_length(slots: usize) -> usize {
+    if slots < ENTRIES {
+        return 16 * slots;
+    }
+    ENTRIES
+}
+
+fn replay(list: &[u8], q: Request, entries: &mut [u8], room: &mut [u8]) -> bool {
+    let a = list::string(list, q.a);
+    let b = list::string(list, q.b);
+    let said = list::string(list, q.said);
+    is_same(
+        q,
+        a,
+        b,
+        said,
+        lent::some(entries, slots_length(q.slots)),
+        lent::some(room, q.room),
+    )
+}
+
+// Each turn takes a byte at least, but no proof has to say so: turns are counted down.
+fn replay_all(list: &[u8], entries: &mut [u8; ENTRIES], room: &mut [u8; ROOM]) -> Tally {
+    let mut t = Tally {
+        requests: 0,
+        same: 0,
+        refused: 0,
+        first: u64::MAX,
+    };
+    let mut at = 0;
+    let mut turns = list.len();
+    while turns > 0 && at < list.len() {
+        let q = list::next(list, at);
+        let is_same = replay(list, q, entries, room);
+        let said = list::string(list, q.said);
+        t = counted(t, is_same, said.len() == 0);
+        at = q.next;
+        turns -= 1;
+    }
+    t
+}
+
+fn report(t: Tally) {
+    io::print_decimal(1, t.requests);
+    io::write_all(1, b" requests, ");
+    io::print_decimal(1, t.same);
+    io::write_all(1, b" as the Rust answers, ");
+    io::print_decimal(1, t.refused);
+    io::write_all(1, b" of these refused\n");
+    if t.first < t.requests {
+        io::write_all(1, b"the first that differs: ");
+        io::print_decimal(1, t.first);
+        io::write_all(1, b"\n");
+    }
+}
+
+fn replay_input(list: &mut [u8; LIST], entries: &mut [u8; ENTRIES], room: &mut [u8; ROOM]) {
+    let n = io::read_full(0, list);
+    let t = replay_all(list::part(list, 0, n), entries, room);
+    report(t);
+}
+
+fn main() {
+    let mut list = [0u8; LIST];
+    let mut entries = [0u8; ENTRIES];
+    let mut room = [0u8; ROOM];
+    replay_input(&mut list, &mut entries, &mut room);
+}
