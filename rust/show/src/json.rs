@@ -1,10 +1,11 @@
 //! One JSON object a line, as docs/SHOW.md says.
 use crate::fields::{self, Fields, Value};
 use crate::hex;
-use crate::library::{mode_text, Payload};
+use crate::library::Payload;
 use crate::names;
 use crate::session::*;
 use crate::View;
+use lintelow::wire::mode_text;
 use lintelow::StderrCode;
 use std::fmt::Write as _;
 use std::io::{self, Write};

@@ -2,8 +2,7 @@
 //!
 //! A reader that is lent no payload room refuses by 5 at the place where a payload begins. What stands before that place is read with an empty payload
 //! behind it, and the payload is passed over.
-use lintelow::{raw, OpCall, Refusal, ResultData, Version};
-use std::ops::Range;
+use lintelow::{raw, wire, OpCall, Refusal, ResultData, Version};
 
 /// How many of a payload's first bytes are kept.
 pub const SHOWN: usize = 16;
@@ -35,19 +34,6 @@ pub fn read_op_args(op: u64, version: Version, stream: &[u8]) -> Result<Read<Opt
 pub fn read_daemon_result(op: u64, version: Version, stream: &[u8]) -> Result<Read<ResultData>, Refusal> {
     let judge = |entries: &mut [u8]| Ok(raw::read_daemon_result(op, version, stream, entries, &mut [])?.end);
     apart(stream, judge, |part| lintelow::read_daemon_result(op, version, part))
-}
-
-/// The number at a place of a stream.
-pub fn read_u64(stream: &[u8], at: usize) -> Result<u64, Refusal> {
-    match stream.get(at..).and_then(|rest| rest.first_chunk()) {
-        Some(bytes) => Ok(u64::from_le_bytes(*bytes)),
-        None => Err(Refusal { number: 1, place: at, stream: 0 }),
-    }
-}
-
-/// The text of a build's mode.
-pub fn mode_text(mode: u64) -> String {
-    mode.to_string()
 }
 
 fn apart<T>(
@@ -85,34 +71,19 @@ fn with_entries<T>(streamed: usize, call: impl Fn(&mut [u8]) -> Result<T, Refusa
 
 /// The payload that begins at a place, and where it ends.
 fn pass_payload(stream: &[u8], start: usize) -> Result<(Payload, usize), Refusal> {
-    let end = skip_framed(stream, start)?;
-    let mut payload = Payload::default();
-    for chunk in chunks(stream, start..end) {
-        payload.size += chunk.len() as u64;
-        let shown = chunk.len().min(SHOWN - payload.first.len());
-        payload.first.extend(&chunk[..shown]);
+    let (size, end) = wire::skip_framed(stream, start)?;
+    let mut first = Vec::new();
+    let mut at = start;
+    while first.len() < SHOWN {
+        // A chunk is its length and that many bytes, and one of length 0 is the last.
+        let (length, contents) = wire::read_u64(stream, at)?;
+        if length == 0 {
+            break;
+        }
+        at = contents + length as usize;
+        first.extend(stream[contents..at].iter().take(SHOWN - first.len()));
     }
-    Ok((payload, end))
-}
-
-/// Where framed data ends: it is all that NarFromPath's reply has, from 1.23.
-fn skip_framed(stream: &[u8], start: usize) -> Result<usize, Refusal> {
-    let end = lintelow::skip_daemon_result(38, Version::new(1, 23), &stream[start..]);
-    match end {
-        Ok(end) => Ok(start + end),
-        Err(refusal) => Err(Refusal { place: start + refusal.place, ..refusal }),
-    }
-}
-
-/// The chunks of framed data that was passed over, as parts of the stream.
-fn chunks(stream: &[u8], framed: Range<usize>) -> impl Iterator<Item = &[u8]> {
-    let mut rest = stream.get(framed).unwrap_or_default();
-    std::iter::from_fn(move || {
-        let (length, behind) = rest.split_first_chunk()?;
-        let chunk = behind.get(..u64::from_le_bytes(*length) as usize)?;
-        rest = &behind[chunk.len()..];
-        (!chunk.is_empty()).then_some(chunk)
-    })
+    Ok((Payload { size, first }, end))
 }
 
 #[cfg(test)]

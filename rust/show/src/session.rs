@@ -1,7 +1,7 @@
 //! The order of a session: a handshake; then for each call the operation's number and its arguments from the client, and from the daemon its messages
 //! and a reply or an error. What each of them says, and where it ends, is the library's to say.
 use crate::library::{self, Payload};
-use lintelow::{ErrorInfo, HandshakeInfo, OpCall, Refusal, ResultData, StderrCode, Version};
+use lintelow::{wire, ErrorInfo, HandshakeInfo, OpCall, Refusal, ResultData, StderrCode, Version};
 use std::ops::Range;
 
 /// Bytes of one of the streams, by their places.
@@ -161,17 +161,18 @@ impl<'s> Session<'s> {
     fn next_call(&mut self, version: Version) -> Event {
         self.calls += 1;
         let start = self.said;
-        let op = match library::read_u64(self.client, start) {
-            Ok(op) => op,
+        let op = match wire::read_u64(self.client, start) {
+            Ok((op, end)) => {
+                self.said = end;
+                op
+            }
             Err(refusal) => {
                 self.over = true;
                 let call = Some(self.calls);
                 return Event::Stop(Stop::Refused(Refused { part: Part::Number, call, op: None, side: Side::Client, place: refusal.place, refusal }));
             }
         };
-        self.said += 8;
-        let number = start..self.said;
-        let mut call = Call { index: self.calls, op, version, number, arguments: None, messages: None, outcome: None };
+        let mut call = Call { index: self.calls, op, version, number: start..self.said, arguments: None, messages: None, outcome: None };
         self.stop = self.converse(&mut call).err();
         Event::Call(Box::new(call))
     }
@@ -182,7 +183,11 @@ impl<'s> Session<'s> {
         let messages = self.messages(call)?;
         let failed = messages.terminal == Some(StderrCode::Error);
         let messages = call.messages.insert(messages).bytes.clone();
-        call.outcome = Some(if failed { self.error(call, messages)? } else { self.reply(call)? });
+        let error = if failed { self.error(call, messages)? } else { None };
+        call.outcome = Some(match error {
+            Some(error) => error,
+            None => self.reply(call)?,
+        });
         Ok(())
     }
 
@@ -213,13 +218,12 @@ impl<'s> Session<'s> {
     }
 
     /// What follows the message Error, which the library reads together with the messages.
-    fn error(&mut self, call: &Call, messages: Bytes) -> Result<Outcome, Stop> {
+    fn error(&mut self, call: &Call, messages: Bytes) -> Result<Option<Outcome>, Stop> {
         let start = messages.start;
         let (_, info, end) =
             lintelow::read_stderr_with_error(&self.daemon[start..]).map_err(|refusal| refused(call, Part::Error, Side::Daemon, start, refusal))?;
         self.answered = start + end;
-        let info = info.unwrap_or_else(|| ErrorInfo { error_type: String::new(), level: 0, name: String::new(), message: String::new() });
-        Ok(Outcome::Error { bytes: messages.end..self.answered, info })
+        Ok(info.map(|info| Outcome::Error { bytes: messages.end..self.answered, info }))
     }
 
     fn reply(&mut self, call: &Call) -> Result<Outcome, Stop> {

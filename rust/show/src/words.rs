@@ -2,11 +2,11 @@
 use crate::fields::{self, Fields, Value};
 use crate::hex;
 use crate::json::side;
-use crate::library::mode_text;
 use crate::names;
 use crate::session::*;
 use crate::text;
 use crate::View;
+use lintelow::wire::mode_text;
 use lintelow::{StderrCode, Version};
 use std::io::{self, Write};
 
