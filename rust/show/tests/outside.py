@@ -84,19 +84,42 @@ def progress_on_a_terminal_only():
     calls = 100_000
     while True:
         session = long_recording(calls)
-        run = subprocess.run(["/bin/sh", "-c", 'time -p "$0" --json "$1" >/dev/null', program, str(session)], capture_output=True, check=True)
-        seconds = float(run.stderr.split()[1])
-        if seconds > 1.5:
+        status, line = on_terminal(["--json", str(session)], stdout=subprocess.DEVNULL)
+        assert status == 0
+        if line or calls > 10_000_000:
             break
-        calls *= 2
-    status, line = on_terminal(["--json", str(session)], stdout=subprocess.DEVNULL)
-    assert status == 0
+        calls *= 2  # too quick for a line
     assert b"% of " in line and line.endswith(b"\r\x1b[K"), line[-100:]
+    piped = subprocess.run([program, "--summary", str(session)], capture_output=True, check=True)
+    assert not piped.stderr
     for file in session.iterdir():
         file.unlink()
     session.rmdir()
-    return f"a progress line over {calls} calls, {seconds} s"
+    return f"a progress line over {calls} calls, on a terminal only"
 
 
-for test in (json_parses, colours_on_a_terminal_only, progress_on_a_terminal_only):
+def names_in(value):
+    if isinstance(value, dict):
+        for name, part in value.items():
+            yield name
+            yield from names_in(part)
+    if isinstance(value, list):
+        for part in value:
+            yield from names_in(part)
+
+
+def names_are_documented():
+    document = (Path(__file__).parents[3] / "docs/SHOW.md").read_text(encoding="utf-8")
+    names = set()
+    for session in sorted(path for path in captures.iterdir() if path.is_dir()):
+        for options in (["--json"], ["--json", "--summary"]):
+            run = subprocess.run([program, *options, str(session)], capture_output=True, check=False)
+            for line in run.stdout.splitlines():
+                names.update(names_in(json.loads(line)))
+    missing = sorted(name for name in names if f"`{name}`" not in document)
+    assert not missing, missing
+    return f"docs/SHOW.md has all of {len(names)} names"
+
+
+for test in (json_parses, names_are_documented, colours_on_a_terminal_only, progress_on_a_terminal_only):
     print(test())

@@ -59,3 +59,37 @@ pub fn number_after(line: &str, text: &str) -> Option<usize> {
     let rest = &line[line.find(text)? + text.len()..];
     rest[..rest.find(|c: char| !c.is_ascii_digit()).unwrap_or(rest.len())].parse().ok()
 }
+
+pub const LAST: u64 = 0x616c7473;
+
+pub fn numbers(numbers: &[u64]) -> Vec<u8> {
+    numbers.iter().flat_map(|number| number.to_le_bytes()).collect()
+}
+
+/// What client and daemon say in a handshake at version 1.`minor`, 1.14 or later.
+pub fn handshake(minor: u64) -> (Vec<u8>, Vec<u8>) {
+    let version = 0x100 | minor;
+    let (mut client, mut daemon) = (vec![0x6e697863, version], vec![0x6478696f, version]);
+    if minor >= 38 {
+        client.push(0);
+        daemon.push(0);
+    }
+    client.extend([0, 0]);
+    if minor >= 33 {
+        daemon.push(0);
+    }
+    if minor >= 35 {
+        daemon.push(1);
+    }
+    daemon.push(LAST);
+    (numbers(&client), numbers(&daemon))
+}
+
+/// What is told of a session of one call.
+pub fn told_call(minor: u64, op: u64, arguments: &[u64], answer: &[u64], options: &Options) -> (Status, String) {
+    let (mut client, mut daemon) = handshake(minor);
+    client.extend(numbers(&[op]));
+    client.extend(numbers(arguments));
+    daemon.extend(numbers(answer));
+    told(&client, &daemon, options)
+}
