@@ -76,12 +76,12 @@ impl<'s, W: Write> Words<'s, W> {
         }
         if let Some(Messages { bytes, count, terminal }) = &call.messages {
             let last = match terminal {
-                Some(StderrCode::Last) => ", the last one Last",
-                Some(StderrCode::Error) => ", the last one Error",
-                None => ", with none that ends them",
+                Some(StderrCode::Last) => "ended by Last",
+                Some(StderrCode::Error) => "ended by Error",
+                None => "not ended",
             };
             let head = self.head("messages", Side::Daemon, bytes);
-            writeln!(self.out, "{head}  {count}{last}")?;
+            writeln!(self.out, "{head}  {count}, {last}")?;
         }
         match &call.outcome {
             None => Ok(()),

@@ -54,6 +54,19 @@ fn a_reader_that_stops_early_is_no_error() {
     assert!(output.stderr.is_empty(), "{}", String::from_utf8_lossy(&output.stderr));
 }
 
+/// What can't be mapped is read in.
+#[test]
+fn a_stream_from_a_pipe() {
+    let folder = folder("pipe");
+    let name = "n28-build-0";
+    std::os::unix::fs::symlink("/dev/stdin", folder.join("client.bin")).unwrap();
+    fs::copy(captures().join(name).join("daemon.bin"), folder.join("daemon.bin")).unwrap();
+    let mut shown = program().arg(&folder).stdin(Stdio::piped()).stdout(Stdio::piped()).spawn().unwrap();
+    shown.stdin.take().unwrap().write_all(&streams(name).0).unwrap();
+    let expected = program().arg(captures().join(name)).output().unwrap();
+    assert_eq!(printed(&shown.wait_with_output().unwrap()), printed(&expected));
+}
+
 const CHUNK: u64 = 268_435_456;
 
 /// Appends framed data of that many chunks of the largest size, of which the disk keeps only the lengths.
