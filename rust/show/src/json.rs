@@ -104,7 +104,7 @@ fn refused(refused: &Refused) -> Object {
         .text("part", part(refused.part))
         .number("refusal", refused.refusal.number)
         .text("meaning", refused.refusal.meaning())
-        .text("stream", side(refused.side))
+        .text("stream", refused.side.name())
         .number("place", refused.place as u64)
 }
 
@@ -128,14 +128,6 @@ fn part(part: Part) -> &'static str {
         Part::Messages => "messages",
         Part::Error => "error",
         Part::Reply => "reply",
-    }
-}
-
-/// The stream's name, here and in words.
-pub fn side(side: Side) -> &'static str {
-    match side {
-        Side::Client => "client",
-        Side::Daemon => "daemon",
     }
 }
 

@@ -13,6 +13,15 @@ pub enum Side {
     Daemon,
 }
 
+impl Side {
+    pub fn name(self) -> &'static str {
+        match self {
+            Side::Client => "client",
+            Side::Daemon => "daemon",
+        }
+    }
+}
+
 /// What a session tells, in order: a handshake, then calls, and last why it stops or that it ends.
 #[derive(Debug)]
 pub enum Event {

@@ -1,7 +1,6 @@
 //! A session in words.
 use crate::fields::{self, Fields, Value};
 use crate::hex;
-use crate::json::side;
 use crate::names;
 use crate::session::*;
 use crate::text;
@@ -109,7 +108,13 @@ impl<'s, W: Write> Words<'s, W> {
         };
         let title = self.red(&format!("refused by {}", refusal.number));
         writeln!(self.out, "\n{title}  {}", refusal.meaning())?;
-        writeln!(self.out, "  in the {}{of_call}, the {}'s stream ({file}), at byte {}", part_name(refused.part), side(refused.side), refused.place)?;
+        writeln!(
+            self.out,
+            "  in the {}{of_call}, the {}'s stream ({file}), at byte {}",
+            part_name(refused.part),
+            refused.side.name(),
+            refused.place
+        )?;
         for row in hex::view(stream, refused.place) {
             writeln!(self.out, "    {row}")?;
         }
@@ -135,7 +140,7 @@ impl<'s, W: Write> Words<'s, W> {
     }
 
     fn head(&self, name: &str, side: Side, range: &Bytes) -> String {
-        let place = format!("{} {}", self::side(side), bytes(range));
+        let place = format!("{} {}", side.name(), bytes(range));
         format!("  {name:<9}  {}", self.dim(&place))
     }
 
@@ -251,7 +256,7 @@ impl<'s, W: Write> Words<'s, W> {
 }
 
 /// Why a call can't be followed.
-pub fn why_unfollowed(op: u64, version: Version, known: bool) -> String {
+fn why_unfollowed(op: u64, version: Version, known: bool) -> String {
     let name = names::operation(op);
     if known {
         format!("{op} {name} has arguments that are not read at version {version}")

@@ -76,7 +76,7 @@ fn difference(session: &str, call: usize) -> Option<Ported> {
 fn ranges_are_those_of_the_index() {
     for session in names() {
         let (client, daemon) = streams(&session);
-        let (_, json) = told(&client, &daemon, &JSON);
+        let (_, json) = told(&client, &daemon, &as_json());
         let mut lines = json.lines();
         let handshake = lines.next().unwrap();
         for (number, indexed) in (1..).zip(index(&session)) {
@@ -125,7 +125,7 @@ fn sessions_without_a_difference_are_read_to_the_last_byte() {
             continue;
         }
         let (client, daemon) = streams(&session);
-        let (_, json) = told(&client, &daemon, &JSON);
+        let (_, json) = told(&client, &daemon, &as_json());
         let expected = format!("{{\"event\":\"end\",\"calls\":{},\"left\":[{1},{1}]}}", index(&session).len(), daemon.len());
         assert_eq!(json.lines().last(), Some(expected.as_str()), "{session}");
     }
@@ -140,7 +140,7 @@ fn a_session_cut_behind_a_call() {
             if difference(&session, number).is_some() {
                 break;
             }
-            let (_, json) = told(&client[..indexed.arguments.1], &daemon, &JSON);
+            let (_, json) = told(&client[..indexed.arguments.1], &daemon, &as_json());
             let expected = format!("{{\"event\":\"end\",\"calls\":{number},\"left\":[{},{}]}}", indexed.outcome.1, daemon.len());
             assert_eq!(json.lines().last(), Some(expected.as_str()), "{session}, call {number}");
         }

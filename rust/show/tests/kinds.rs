@@ -28,7 +28,7 @@ fn every_kind_is_told_and_documented() {
         for minor in [14, 16, 24, 25, 26, 34, 38] {
             for number in [0, 1] {
                 let answer = [vec![LAST], vec![number; 64]].concat();
-                let (_, json) = told_call(minor, op, &[number; 64], &answer, &JSON);
+                let (_, json) = told_call(minor, op, &[number; 64], &answer, &as_json());
                 let call = json.lines().nth(1).unwrap();
                 assert!(call.starts_with(&format!("{{\"event\":\"call\",\"call\":1,\"op\":{op},")), "{call}");
                 arguments.extend(kind(call, "\"arguments\":"));
@@ -46,7 +46,7 @@ fn every_kind_is_told_and_documented() {
 fn calls_that_cannot_be_followed() {
     let known = [36, 39];
     for (minor, op) in [(34, 36), (38, 39), (24, 7), (34, 2), (34, 48), (34, u64::MAX)] {
-        let (status, json) = told_call(minor, op, &[0; 64], &[LAST; 64], &JSON);
+        let (status, json) = told_call(minor, op, &[0; 64], &[LAST; 64], &as_json());
         assert_eq!(status, Status::Unfollowed, "{op} at 1.{minor}");
         let last = json.lines().last().unwrap();
         assert!(last.starts_with(&format!("{{\"event\":\"unfollowed\",\"call\":1,\"op\":{op},")), "{last}");
@@ -54,7 +54,7 @@ fn calls_that_cannot_be_followed() {
         let (_, words) = told_call(minor, op, &[0; 64], &[LAST; 64], &Options::default());
         assert!(words.contains("can't follow  call 1: "), "{words}");
     }
-    let (status, _) = told_call(25, 7, &[0; 5], &[LAST, 0, 0, 0, 0, 0, 0, 0, 0, 0], &JSON);
+    let (status, _) = told_call(25, 7, &[0; 5], &[LAST, 0, 0, 0, 0, 0, 0, 0, 0, 0], &as_json());
     assert_eq!(status, Status::Read, "AddToStore from 1.25 on");
 }
 
@@ -63,7 +63,7 @@ fn an_operation_number_cut_short() {
     let (mut client, daemon) = handshake(34);
     let place = client.len();
     client.extend([19, 0, 0]);
-    let (status, json) = told(&client, &daemon, &JSON);
+    let (status, json) = told(&client, &daemon, &as_json());
     assert_eq!(status, Status::Refused);
     let expected = "{\"event\":\"refusal\",\"call\":1,\"op\":null,\"part\":\"number\",\"refusal\":1,";
     let last = json.lines().last().unwrap();
@@ -73,7 +73,7 @@ fn an_operation_number_cut_short() {
 #[test]
 fn modes_by_their_text() {
     for (mode, text) in [(0, "normal"), (1, "repair"), (2, "check"), (77, "77")] {
-        let (_, json) = told_call(34, 9, &[0, mode], &[LAST, 1], &JSON);
+        let (_, json) = told_call(34, 9, &[0, mode], &[LAST, 1], &as_json());
         assert!(json.contains(&format!("\"mode\":\"{text}\"")), "{json}");
     }
 }

@@ -35,7 +35,9 @@ pub fn printed(output: &Output) -> &str {
     std::str::from_utf8(&output.stdout).unwrap()
 }
 
-pub const JSON: Options = Options { json: true, summary: false, full: false, folder: PathBuf::new() };
+pub fn as_json() -> Options {
+    Options { json: true, ..Options::default() }
+}
 
 /// What is told of two streams in memory, and how that ends.
 pub fn told(client: &[u8], daemon: &[u8], options: &Options) -> (Status, String) {
