@@ -2,6 +2,7 @@
 // or NOWHERE, which lies behind every answer's end.
 use crate::lent;
 use crate::list;
+use crate::list::Request;
 
 const NOWHERE: usize = usize::MAX;
 
@@ -16,7 +17,7 @@ const FIRST_COUNT: usize = 20;
 
 const AFTER_COUNTS: usize = 23;
 
-// Where a block has an entry of its own: its second and third number.
+// Where a block has an entry of its own: its numbers 1 and 2.
 const OWN_AT: usize = 72;
 
 const ENTRY: usize = 16;
@@ -125,16 +126,11 @@ fn entries_length(block: &[u8]) -> usize {
     0
 }
 
-fn reported(
-    call: u64,
-    n: usize,
-    said: &[u8],
-    from: usize,
-    a: &[u8],
-    b: &[u8],
-    entries: &[u8],
-    block: &[u8],
-) -> usize {
+fn reported(q: Request, n: usize, from: usize, list: &[u8], entries: &[u8], block: &[u8]) -> usize {
+    let call = q.call;
+    let a = list::string(list, q.a);
+    let b = list::string(list, q.b);
+    let said = list::string(list, q.said);
     if is_own(call) {
         return strings(said, from, list::part(block, OWN_AT, n), u64::MAX, a, b);
     }
@@ -156,21 +152,14 @@ fn slots_used(call: u64, n: usize) -> usize {
 }
 
 // All of the answer, and lent memory beyond it as it was lent.
-pub fn is_answer(
-    call: u64,
-    a: &[u8],
-    b: &[u8],
-    said: &[u8],
-    entries: &[u8],
-    room: &[u8],
-    block: &[u8],
-) -> bool {
+pub fn is_answer(q: Request, list: &[u8], entries: &[u8], room: &[u8], block: &[u8]) -> bool {
     let n = entries_length(block);
+    let said = list::string(list, q.said);
     let output = list::part(room, 0, block_number(block, OUTPUT) as usize);
     let from = numbers(said, block);
-    let at = reported(call, n, said, from, a, b, entries, block);
+    let at = reported(q, n, from, list, entries, block);
     (bytes(said, at, output) == said.len())
-        & lent::is_kept(entries, slots_used(call, n))
+        & lent::is_kept(entries, slots_used(q.call, n))
         & lent::is_kept(room, output.len())
 }
 
@@ -179,7 +168,7 @@ fn is_of_stream(refusal: u64) -> bool {
     (refusal != 4) & (refusal != 5) & (refusal != 10)
 }
 
-// Of a refusal the Rust's answer is empty.
+// Where the Rust refuses, its answer is empty.
 pub fn is_refusal(said: &[u8], refusal: u64, entries: &[u8], room: &[u8]) -> bool {
     (said.len() == 0) & is_of_stream(refusal) & lent::is_kept(entries, 0) & lent::is_kept(room, 0)
 }

@@ -7,10 +7,12 @@ mod list;
 
 use list::Request;
 
-// The longest list, 511 slots, and room for the longest payload of a list.
+// More than the list has, and more than any of its requests asks for.
 const LIST: usize = 1048576;
 
-const ENTRIES: usize = 8176;
+const MOST_SLOTS: usize = 256;
+
+const ENTRIES: usize = 4096;
 
 const ROOM: usize = 4096;
 
@@ -49,40 +51,28 @@ fn counted(t: Tally, is_same: bool, is_refusal: bool) -> Tally {
 }
 
 // One call on lent memory that holds the pattern.
-fn is_same(
-    q: Request,
-    a: &[u8],
-    b: &[u8],
-    said: &[u8],
-    entries: &mut [u8],
-    room: &mut [u8],
-) -> bool {
+fn is_same(q: Request, list: &[u8], entries: &mut [u8], room: &mut [u8]) -> bool {
     let mut block = [0u8; 200];
     lent::fill(entries);
     lent::fill(room);
-    let refusal = calls::answer(q, a, b, entries, room, &mut block);
+    let refusal = calls::answer(q, list, entries, room, &mut block);
     if refusal == 0 {
-        return hold::is_answer(q.call, a, b, said, entries, room, &block);
+        return hold::is_answer(q, list, entries, room, &block);
     }
-    hold::is_refusal(said, refusal, entries, room)
+    hold::is_refusal(list::string(list, q.said), refusal, entries, room)
 }
 
 fn slots_length(slots: usize) -> usize {
-    if slots < ENTRIES {
+    if slots < MOST_SLOTS {
         return 16 * slots;
     }
     ENTRIES
 }
 
 fn replay(list: &[u8], q: Request, entries: &mut [u8], room: &mut [u8]) -> bool {
-    let a = list::string(list, q.a);
-    let b = list::string(list, q.b);
-    let said = list::string(list, q.said);
     is_same(
         q,
-        a,
-        b,
-        said,
+        list,
         lent::some(entries, slots_length(q.slots)),
         lent::some(room, q.room),
     )
@@ -109,17 +99,18 @@ fn replay_all(list: &[u8], entries: &mut [u8; ENTRIES], room: &mut [u8; ROOM]) -
     t
 }
 
+fn say(x: u64, words: &[u8]) {
+    io::print_decimal(1, x);
+    io::write_all(1, words);
+}
+
 fn report(t: Tally) {
-    io::print_decimal(1, t.requests);
-    io::write_all(1, b" requests, ");
-    io::print_decimal(1, t.same);
-    io::write_all(1, b" as the Rust answers, ");
-    io::print_decimal(1, t.refused);
-    io::write_all(1, b" of these refused\n");
+    say(t.requests, b" requests, ");
+    say(t.same, b" as the Rust answers, ");
+    say(t.refused, b" of these refused\n");
     if t.first < t.requests {
         io::write_all(1, b"the first that differs: ");
-        io::print_decimal(1, t.first);
-        io::write_all(1, b"\n");
+        say(t.first, b"\n");
     }
 }
 
