@@ -4,7 +4,7 @@ use std::fs;
 use std::path::Path;
 
 fn streams(name: &str) -> (Vec<u8>, Vec<u8>) {
-    let folder = Path::new(env!("CARGO_MANIFEST_DIR")).join("tests/sessions").join(name);
+    let folder = Path::new(env!("CARGO_MANIFEST_DIR")).join(name);
     let read = |file| fs::read(folder.join(file)).unwrap();
     (read("client.bin"), read("daemon.bin"))
 }
@@ -35,7 +35,7 @@ fn converse(client: &[u8], daemon: &[u8]) -> (HandshakeInfo, Vec<(Option<OpCall>
 
 #[test]
 fn a_build_by_nix_2_26() {
-    let (client, daemon) = streams("nix-2.26-build");
+    let (client, daemon) = streams("../../captures/n226-nbuild-0");
     let (info, calls) = converse(&client, &daemon);
     assert_eq!(info.negotiated_version, Version::new(1, 38));
     assert_eq!(info.daemon_nix_version.as_deref(), Some("2.26.3"));
@@ -63,7 +63,7 @@ fn a_build_by_nix_2_26() {
 
 #[test]
 fn path_infos_by_nix_2_8() {
-    let (client, daemon) = streams("nix-2.8-path-info");
+    let (client, daemon) = streams("tests/sessions/nix-2.8-path-info");
     let (info, calls) = converse(&client, &daemon);
     assert_eq!((info.negotiated_version, info.trust_status), (Version::new(1, 34), None));
 
@@ -77,7 +77,7 @@ fn path_infos_by_nix_2_8() {
 
 #[test]
 fn a_handshake_cut_anywhere_is_refused() {
-    let (client, daemon) = streams("nix-2.26-build");
+    let (client, daemon) = streams("../../captures/n226-nbuild-0");
     let (info, client_end, daemon_end) = parse_handshake(&client, &daemon).unwrap();
     for length in 0..daemon_end {
         let refusal = parse_handshake(&client, &daemon[..length]).unwrap_err();
