@@ -24,6 +24,8 @@ const ENTRY: usize = 16;
 
 const MOST_ENTRIES: u64 = 65536;
 
+const LAST_REFUSAL: u64 = 12;
+
 fn block_number(block: &[u8], i: usize) -> u64 {
     if AFTER_COUNTS < i {
         return 0;
@@ -163,9 +165,9 @@ pub fn is_answer(q: Request, list: &[u8], entries: &[u8], room: &[u8], block: &[
         & lent::is_kept(room, output.len())
 }
 
-// A refusal for want of slots or room is none of the Rust's.
+// A refusal for want of slots or room is none of the Rust's, and a greater number is no refusal.
 fn is_of_stream(refusal: u64) -> bool {
-    (refusal != 4) & (refusal != 5) & (refusal != 10)
+    (refusal != 4) & (refusal != 5) & (refusal != 10) & (refusal <= LAST_REFUSAL)
 }
 
 // Where the Rust refuses, its answer is empty.
