@@ -3,17 +3,9 @@ use crate::list;
 use crate::list::Request;
 use lintelow::reads;
 use lintelow::writes;
-use ops::Framed;
-use versions::handshake::ProtocolVersion;
 
 // No refusal has this number.
 const NO_CALL: u64 = 99;
-
-const KIND_AT: usize = 24;
-
-const FIRST_NUMBER_AT: usize = 64;
-
-const SECOND_NUMBER_AT: usize = 72;
 
 fn operation(
     q: Request,
@@ -97,32 +89,12 @@ fn writer(q: Request, list: &[u8], room: &mut [u8], block: &mut [u8]) -> u64 {
     }
 }
 
-// The C boundary has no call for these two.
-fn framed(x: u64, block: &mut [u8]) -> u64 {
-    let f = ops::op_has_client_framed_data(x);
-    match f {
-        Framed::Yes => {
-            output::put_number(block, KIND_AT, 1);
-            0
-        }
-        Framed::No => 0,
-        Framed::Refused { which, place: _ } => which,
-    }
-}
-
-fn version(x: u64, block: &mut [u8]) -> u64 {
-    let v = ProtocolVersion::from_wire(x);
-    output::put_number(block, FIRST_NUMBER_AT, v.major as u64);
-    output::put_number(block, SECOND_NUMBER_AT, v.minor as u64);
-    0
-}
-
 fn test(q: Request, list: &[u8], block: &mut [u8]) -> u64 {
     let call = q.call;
     match call {
         30 => reads::lintelow_extract_store_path(list::string(list, q.a), block),
-        31 => framed(q.operation, block),
-        _ => version(q.operation, block),
+        31 => reads::lintelow_op_has_client_framed_data(q.operation, block),
+        _ => reads::lintelow_version_from_wire(q.operation, block),
     }
 }
 
