@@ -1,4 +1,4 @@
-"""Builds the oracle below target/: nix-wire as it stands here, with Debian's sources of the crates that it uses. Nothing is installed."""
+"""Builds the oracle, and the native comparison over it, below target/: nix-wire as it stands here, with Debian's sources of the crates that it uses. Nothing is installed."""
 import os
 import shutil
 import subprocess
