@@ -1,6 +1,6 @@
 -- The measure falls with each step.
 use Prim.Native.Nat.{ℕ, _<_}
-use mathlib.Core.Path.{_≡_, _∙_, ap, subst}
+use mathlib.Core.Path.{_≡_, subst}
 use mathlib.Core.List.{List}
 use native.Mathlib.Omega.{arith}
 use Rattle.table.specs.Packed.{fieldCount, runCount}
@@ -9,7 +9,7 @@ use Rattle.walk.specs.declared.Walk.{Walk}
 use Rattle.walk.specs.declared.Todo.the-variants.{Fields}
 use Rattle.walk.specs.declared.Step.{Step}
 use Rattle.walk.specs.declared.Step.the-variants as Steps
-use Rattle.walk.specs.Walk.{fuelAt, fuel, Each, On, Moved, Falls, rest, shown}
+use Rattle.walk.specs.Walk.{fuelAt, fuel, Each, On, Moved, Falls}
 use Rattle.walk.proofs.Trees.{onto, again, enter}
 
 module _ (s : List ℕ) (at : ℕ) (fl : Flow) where
@@ -44,6 +44,3 @@ module _ (s : List ℕ) (at : ℕ) (fl : Flow) where
 -- for a caller of `next` that has matched on the step
 pub falls-by : (s : List ℕ) (f : ℕ) (x y : Step) → x ≡ y → Falls s f x → Falls s f y
 falls-by s f x y e h = subst (λ (z : Step). Falls s f z) e h
-
-pub shown-by : (s : List ℕ) (w : Walk) (x y : Step) → x ≡ y → rest s w ≡ shown s x → rest s w ≡ shown s y
-shown-by s w x y e h = h ∙ ap (λ (z : Step). shown s z) e
