@@ -17,34 +17,6 @@ pub use crate::answer::ENTRY;
 pub use wire::*;
 
 extern "C" {
-    fn lintelow_read_op_args(
-        op: u64,
-        major: u16,
-        minor: u8,
-        s: *const u8,
-        s_len: usize,
-        entries: *mut u8,
-        entries_len: usize,
-        payload: *mut u8,
-        payload_len: usize,
-        block: *mut u8,
-        block_len: usize,
-    ) -> u64;
-    fn lintelow_read_daemon_result(
-        op: u64,
-        major: u16,
-        minor: u8,
-        s: *const u8,
-        s_len: usize,
-        entries: *mut u8,
-        entries_len: usize,
-        payload: *mut u8,
-        payload_len: usize,
-        block: *mut u8,
-        block_len: usize,
-    ) -> u64;
-    fn lintelow_skip_op_args(op: u64, major: u16, minor: u8, s: *const u8, s_len: usize, block: *mut u8, block_len: usize) -> u64;
-    fn lintelow_skip_daemon_result(op: u64, major: u16, minor: u8, s: *const u8, s_len: usize, block: *mut u8, block_len: usize) -> u64;
     fn lintelow_read_stderr_loop(s: *const u8, s_len: usize, block: *mut u8, block_len: usize) -> u64;
     fn lintelow_read_stderr_with_error(s: *const u8, s_len: usize, entries: *mut u8, entries_len: usize, block: *mut u8, block_len: usize) -> u64;
     fn lintelow_parse_handshake(
@@ -69,72 +41,67 @@ extern "C" {
     ) -> u64;
 }
 
-/// The arguments of an operation, from the client's stream.
-pub fn read_op_args<'r>(op: u64, version: Version, s: &[u8], entries: &'r mut [u8], payload: &'r mut [u8]) -> Result<Answer<'r>, Refusal> {
-    let Version { major, minor } = version;
-    let mut block = Block::new();
-    // SAFETY: as said above.
-    unsafe {
-        lintelow_read_op_args(
-            op,
-            major,
-            minor,
-            s.as_ptr(),
-            s.len(),
-            entries.as_mut_ptr(),
-            entries.len(),
-            payload.as_mut_ptr(),
-            payload.len(),
-            block.0.as_mut_ptr(),
-            Block::LENGTH,
-        );
-    }
-    block.answer(entries, payload)
+/// Readers by operation and version.
+macro_rules! of_an_operation {
+    ($($(#[$doc:meta])* $name:ident = $function:ident;)*) => {
+        extern "C" {
+            $(fn $function(
+                op: u64,
+                major: u16,
+                minor: u8,
+                s: *const u8,
+                s_len: usize,
+                entries: *mut u8,
+                entries_len: usize,
+                payload: *mut u8,
+                payload_len: usize,
+                block: *mut u8,
+                block_len: usize,
+            ) -> u64;)*
+        }
+        $($(#[$doc])* pub fn $name<'r>(op: u64, version: Version, s: &[u8], entries: &'r mut [u8], payload: &'r mut [u8]) -> Result<Answer<'r>, Refusal> {
+            let Version { major, minor } = version;
+            let (room, bytes) = ((entries.as_mut_ptr(), entries.len()), (payload.as_mut_ptr(), payload.len()));
+            let mut block = Block::new();
+            // SAFETY: as said above.
+            unsafe {
+                $function(op, major, minor, s.as_ptr(), s.len(), room.0, room.1, bytes.0, bytes.1, block.0.as_mut_ptr(), Block::LENGTH);
+            }
+            block.answer(entries, payload)
+        })*
+    };
 }
 
-/// The reply to an operation, from the daemon's stream.
-pub fn read_daemon_result<'r>(op: u64, version: Version, s: &[u8], entries: &'r mut [u8], payload: &'r mut [u8]) -> Result<Answer<'r>, Refusal> {
-    let Version { major, minor } = version;
-    let mut block = Block::new();
-    // SAFETY: as said above.
-    unsafe {
-        lintelow_read_daemon_result(
-            op,
-            major,
-            minor,
-            s.as_ptr(),
-            s.len(),
-            entries.as_mut_ptr(),
-            entries.len(),
-            payload.as_mut_ptr(),
-            payload.len(),
-            block.0.as_mut_ptr(),
-            Block::LENGTH,
-        );
-    }
-    block.answer(entries, payload)
+of_an_operation! {
+    /// The arguments of an operation, from the client's stream.
+    read_op_args = lintelow_read_op_args;
+    /// The reply to an operation, from the daemon's stream.
+    read_daemon_result = lintelow_read_daemon_result;
 }
 
-/// The arguments of an operation passed over, up to framed data. Of kind 2 the string is the answer's own entry.
-pub fn skip_op_args(op: u64, version: Version, s: &[u8]) -> Result<Answer<'static>, Refusal> {
-    let Version { major, minor } = version;
-    let mut block = Block::new();
-    // SAFETY: as said above.
-    unsafe {
-        lintelow_skip_op_args(op, major, minor, s.as_ptr(), s.len(), block.0.as_mut_ptr(), Block::LENGTH);
-    }
-    block.answer(&[], &[])
+/// Skippers by operation and version.
+macro_rules! past_an_operation {
+    ($($(#[$doc:meta])* $name:ident = $function:ident;)*) => {
+        extern "C" {
+            $(fn $function(op: u64, major: u16, minor: u8, s: *const u8, s_len: usize, block: *mut u8, block_len: usize) -> u64;)*
+        }
+        $($(#[$doc])* pub fn $name(op: u64, version: Version, s: &[u8]) -> Result<Answer<'static>, Refusal> {
+            let Version { major, minor } = version;
+            let mut block = Block::new();
+            // SAFETY: as said above.
+            unsafe {
+                $function(op, major, minor, s.as_ptr(), s.len(), block.0.as_mut_ptr(), Block::LENGTH);
+            }
+            block.answer(&[], &[])
+        })*
+    };
 }
 
-/// The reply to an operation passed over.
-pub fn skip_daemon_result(op: u64, version: Version, s: &[u8]) -> Result<Answer<'static>, Refusal> {
-    let Version { major, minor } = version;
-    let mut block = Block::new();
-    // SAFETY: as said above.
-    unsafe {
-        lintelow_skip_daemon_result(op, major, minor, s.as_ptr(), s.len(), block.0.as_mut_ptr(), Block::LENGTH);
-    }
-    block.answer(&[], &[])
+past_an_operation! {
+    /// The arguments of an operation passed over, up to framed data. Of kind 2 the string is the answer's own entry.
+    skip_op_args = lintelow_skip_op_args;
+    /// The reply to an operation passed over.
+    skip_daemon_result = lintelow_skip_daemon_result;
 }
 
 /// The daemon's messages up to Last, Error or what is no message.
