@@ -119,13 +119,14 @@ impl fmt::Display for Refusal {
 impl Error for Refusal {}
 
 /// The bytes that a call writes its answer into: 25 numbers.
-pub(crate) struct Block(pub [u8; Block::LENGTH]);
+pub(crate) struct Block([u8; 200]);
 
 impl Block {
-    pub const LENGTH: usize = 200;
-
-    pub fn new() -> Block {
-        Block([0; Block::LENGTH])
+    /// What a call writes, which is given the pointer and the length of a new block.
+    pub fn of(call: impl FnOnce(*mut u8, usize) -> u64) -> Block {
+        let mut block = Block([0; 200]);
+        call(block.0.as_mut_ptr(), block.0.len());
+        block
     }
 
     /// The answer, with what it reports of the room that was lent to the call.

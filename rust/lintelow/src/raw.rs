@@ -61,12 +61,11 @@ macro_rules! of_an_operation {
         }
         $($(#[$doc])* pub fn $name<'r>(op: u64, version: Version, s: &[u8], entries: &'r mut [u8], payload: &'r mut [u8]) -> Result<Answer<'r>, Refusal> {
             let Version { major, minor } = version;
-            let (room, bytes) = ((entries.as_mut_ptr(), entries.len()), (payload.as_mut_ptr(), payload.len()));
-            let mut block = Block::new();
             // SAFETY: as said above.
-            unsafe {
-                $function(op, major, minor, s.as_ptr(), s.len(), room.0, room.1, bytes.0, bytes.1, block.0.as_mut_ptr(), Block::LENGTH);
-            }
+            let block = Block::of(|block, length| unsafe {
+                let (room, bytes) = (entries.as_mut_ptr(), payload.as_mut_ptr());
+                $function(op, major, minor, s.as_ptr(), s.len(), room, entries.len(), bytes, payload.len(), block, length)
+            });
             block.answer(entries, payload)
         })*
     };
@@ -87,11 +86,8 @@ macro_rules! past_an_operation {
         }
         $($(#[$doc])* pub fn $name(op: u64, version: Version, s: &[u8]) -> Result<Answer<'static>, Refusal> {
             let Version { major, minor } = version;
-            let mut block = Block::new();
             // SAFETY: as said above.
-            unsafe {
-                $function(op, major, minor, s.as_ptr(), s.len(), block.0.as_mut_ptr(), Block::LENGTH);
-            }
+            let block = Block::of(|block, length| unsafe { $function(op, major, minor, s.as_ptr(), s.len(), block, length) });
             block.answer(&[], &[])
         })*
     };
@@ -106,59 +102,35 @@ past_an_operation! {
 
 /// The daemon's messages up to Last, Error or what is no message.
 pub fn read_stderr_loop(s: &[u8]) -> Result<Answer<'static>, Refusal> {
-    let mut block = Block::new();
     // SAFETY: as said above.
-    unsafe {
-        lintelow_read_stderr_loop(s.as_ptr(), s.len(), block.0.as_mut_ptr(), Block::LENGTH);
-    }
+    let block = Block::of(|block, length| unsafe { lintelow_read_stderr_loop(s.as_ptr(), s.len(), block, length) });
     block.answer(&[], &[])
 }
 
 /// The same, and behind Error its block.
 pub fn read_stderr_with_error<'r>(s: &[u8], entries: &'r mut [u8]) -> Result<Answer<'r>, Refusal> {
-    let mut block = Block::new();
     // SAFETY: as said above.
-    unsafe {
-        lintelow_read_stderr_with_error(s.as_ptr(), s.len(), entries.as_mut_ptr(), entries.len(), block.0.as_mut_ptr(), Block::LENGTH);
-    }
+    let block = Block::of(|block, length| unsafe {
+        lintelow_read_stderr_with_error(s.as_ptr(), s.len(), entries.as_mut_ptr(), entries.len(), block, length)
+    });
     block.answer(entries, &[])
 }
 
 /// Both sides of a handshake. Entries: the client's features, of its stream; the daemon's features and its version, of the daemon's.
 pub fn parse_handshake<'r>(client: &[u8], daemon: &[u8], entries: &'r mut [u8]) -> Result<Answer<'r>, Refusal> {
-    let mut block = Block::new();
     // SAFETY: as said above.
-    unsafe {
-        lintelow_parse_handshake(
-            client.as_ptr(),
-            client.len(),
-            daemon.as_ptr(),
-            daemon.len(),
-            entries.as_mut_ptr(),
-            entries.len(),
-            block.0.as_mut_ptr(),
-            Block::LENGTH,
-        );
-    }
+    let block = Block::of(|block, length| unsafe {
+        lintelow_parse_handshake(client.as_ptr(), client.len(), daemon.as_ptr(), daemon.len(), entries.as_mut_ptr(), entries.len(), block, length)
+    });
     block.answer(entries, &[])
 }
 
 /// The daemon's side of a handshake alone, with the version that the client has said.
 pub fn parse_daemon_handshake<'r>(client: Version, daemon: &[u8], entries: &'r mut [u8]) -> Result<Answer<'r>, Refusal> {
     let Version { major, minor } = client;
-    let mut block = Block::new();
     // SAFETY: as said above.
-    unsafe {
-        lintelow_parse_daemon_handshake(
-            major,
-            minor,
-            daemon.as_ptr(),
-            daemon.len(),
-            entries.as_mut_ptr(),
-            entries.len(),
-            block.0.as_mut_ptr(),
-            Block::LENGTH,
-        );
-    }
+    let block = Block::of(|block, length| unsafe {
+        lintelow_parse_daemon_handshake(major, minor, daemon.as_ptr(), daemon.len(), entries.as_mut_ptr(), entries.len(), block, length)
+    });
     block.answer(entries, &[])
 }

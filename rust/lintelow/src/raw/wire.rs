@@ -8,11 +8,8 @@ macro_rules! at_a_place {
             $(fn $function(s: *const u8, s_len: usize, at: usize, block: *mut u8, block_len: usize) -> u64;)*
         }
         $($(#[$doc])* pub fn $name(s: &[u8], at: usize) -> Result<Answer<'static>, Refusal> {
-            let mut block = Block::new();
             // SAFETY: as raw.rs says.
-            unsafe {
-                $function(s.as_ptr(), s.len(), at, block.0.as_mut_ptr(), Block::LENGTH);
-            }
+            let block = Block::of(|block, length| unsafe { $function(s.as_ptr(), s.len(), at, block, length) });
             block.answer(&[], &[])
         })*
     };
@@ -43,11 +40,8 @@ macro_rules! of_a_number {
             $(fn $function(out: *mut u8, out_len: usize, x: $number, block: *mut u8, block_len: usize) -> u64;)*
         }
         $($(#[$doc])* pub fn $name(out: &mut [u8], x: $number) -> Result<Answer<'_>, Refusal> {
-            let mut block = Block::new();
             // SAFETY: as raw.rs says.
-            unsafe {
-                $function(out.as_mut_ptr(), out.len(), x, block.0.as_mut_ptr(), Block::LENGTH);
-            }
+            let block = Block::of(|block, length| unsafe { $function(out.as_mut_ptr(), out.len(), x, block, length) });
             block.answer(&[], out)
         })*
     };
@@ -71,11 +65,8 @@ macro_rules! of_bytes {
             $(fn $function(out: *mut u8, out_len: usize, c: *const u8, c_len: usize, block: *mut u8, block_len: usize) -> u64;)*
         }
         $($(#[$doc])* pub fn $name<'r>(out: &'r mut [u8], c: &[u8]) -> Result<Answer<'r>, Refusal> {
-            let mut block = Block::new();
             // SAFETY: as raw.rs says.
-            unsafe {
-                $function(out.as_mut_ptr(), out.len(), c.as_ptr(), c.len(), block.0.as_mut_ptr(), Block::LENGTH);
-            }
+            let block = Block::of(|block, length| unsafe { $function(out.as_mut_ptr(), out.len(), c.as_ptr(), c.len(), block, length) });
             block.answer(&[], out)
         })*
     };
@@ -120,81 +111,55 @@ extern "C" {
 
 /// A set of strings from a place on; count 0 is how many.
 pub fn read_string_set<'r>(s: &[u8], at: usize, entries: &'r mut [u8]) -> Result<Answer<'r>, Refusal> {
-    let mut block = Block::new();
     // SAFETY: as raw.rs says.
-    unsafe {
-        lintelow_read_string_set(s.as_ptr(), s.len(), at, entries.as_mut_ptr(), entries.len(), block.0.as_mut_ptr(), Block::LENGTH);
-    }
+    let block =
+        Block::of(|block, length| unsafe { lintelow_read_string_set(s.as_ptr(), s.len(), at, entries.as_mut_ptr(), entries.len(), block, length) });
     block.answer(entries, &[])
 }
 
 /// Framed data from a place on.
 pub fn read_framed<'r>(s: &[u8], at: usize, payload: &'r mut [u8]) -> Result<Answer<'r>, Refusal> {
-    let mut block = Block::new();
     // SAFETY: as raw.rs says.
-    unsafe {
-        lintelow_read_framed(s.as_ptr(), s.len(), at, payload.as_mut_ptr(), payload.len(), block.0.as_mut_ptr(), Block::LENGTH);
-    }
+    let block =
+        Block::of(|block, length| unsafe { lintelow_read_framed(s.as_ptr(), s.len(), at, payload.as_mut_ptr(), payload.len(), block, length) });
     block.answer(&[], payload)
 }
 
 /// A set of the first `count` entries' strings, which are parts of `bytes`. Refused by 11 where there are fewer entries, by 12 where one of them passes
 /// the end of the bytes, by 3 where one is no text.
 pub fn write_string_set<'r>(out: &'r mut [u8], bytes: &[u8], entries: &[u8], count: usize) -> Result<Answer<'r>, Refusal> {
-    let mut block = Block::new();
     // SAFETY: as raw.rs says.
-    unsafe {
-        lintelow_write_string_set(
-            out.as_mut_ptr(),
-            out.len(),
-            bytes.as_ptr(),
-            bytes.len(),
-            entries.as_ptr(),
-            entries.len(),
-            count,
-            block.0.as_mut_ptr(),
-            Block::LENGTH,
-        );
-    }
+    let block = Block::of(|block, length| unsafe {
+        lintelow_write_string_set(out.as_mut_ptr(), out.len(), bytes.as_ptr(), bytes.len(), entries.as_ptr(), entries.len(), count, block, length)
+    });
     block.answer(&[], out)
 }
 
 /// Kind 1 where the bytes are a store path, else 0.
 pub fn extract_store_path(c: &[u8]) -> Result<Answer<'static>, Refusal> {
-    let mut block = Block::new();
     // SAFETY: as raw.rs says.
-    unsafe {
-        lintelow_extract_store_path(c.as_ptr(), c.len(), block.0.as_mut_ptr(), Block::LENGTH);
-    }
+    let block = Block::of(|block, length| unsafe { lintelow_extract_store_path(c.as_ptr(), c.len(), block, length) });
     block.answer(&[], &[])
 }
 
 /// The entry at an index, as the answer's own entry, if it stands within the bytes; else 11 or 12.
 pub fn entry(bytes: &[u8], entries: &[u8], index: usize) -> Result<Answer<'static>, Refusal> {
-    let mut block = Block::new();
     // SAFETY: as raw.rs says.
-    unsafe {
-        lintelow_entry(bytes.as_ptr(), bytes.len(), entries.as_ptr(), entries.len(), index, block.0.as_mut_ptr(), Block::LENGTH);
-    }
+    let block =
+        Block::of(|block, length| unsafe { lintelow_entry(bytes.as_ptr(), bytes.len(), entries.as_ptr(), entries.len(), index, block, length) });
     block.answer(&[], &[])
 }
 
 /// Kind 1 where the client sends framed data with the operation, else 0; 9 for a number that is no operation's.
 pub fn op_has_client_framed_data(op: u64) -> Result<Answer<'static>, Refusal> {
-    let mut block = Block::new();
     // SAFETY: as raw.rs says.
-    unsafe {
-        lintelow_op_has_client_framed_data(op, block.0.as_mut_ptr(), Block::LENGTH);
-    }
+    let block = Block::of(|block, length| unsafe { lintelow_op_has_client_framed_data(op, block, length) });
     block.answer(&[], &[])
 }
 
 /// Numbers 0 and 1 are major and minor of the version that a number stands for.
 pub fn version_from_wire(wire: u64) -> Result<Answer<'static>, Refusal> {
-    let mut block = Block::new();
     // SAFETY: as raw.rs says.
-    unsafe {
-        lintelow_version_from_wire(wire, block.0.as_mut_ptr(), Block::LENGTH);
-    }
+    let block = Block::of(|block, length| unsafe { lintelow_version_from_wire(wire, block, length) });
     block.answer(&[], &[])
 }
