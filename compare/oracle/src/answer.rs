@@ -1,9 +1,9 @@
 //! One request, one answer.
 use crate::line::Line;
 use crate::request::Request;
+use crate::wire_async::{AsyncWireReader, MemReader};
 use crate::{conversation, primitives};
 use anyhow::Result;
-use crate::wire_async::{AsyncWireReader, MemReader};
 use std::any::Any;
 use std::fmt;
 use std::future::Future;
@@ -81,11 +81,5 @@ pub fn silence() {
 }
 
 pub fn answer(q: &Request) -> Answer {
-    panic::catch_unwind(|| by_call(q)).unwrap_or_else(|cause| {
-        if is_large_count(&*cause) {
-            Answer::Out
-        } else {
-            Answer::Panic
-        }
-    })
+    panic::catch_unwind(|| by_call(q)).unwrap_or_else(|cause| if is_large_count(&*cause) { Answer::Out } else { Answer::Panic })
 }

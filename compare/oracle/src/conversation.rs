@@ -1,11 +1,11 @@
 //! Calls 1 to 8, nix-wire's protocol.rs: how its answers become kind, numbers, counts and strings.
 use crate::answer::{over, position, run, Answer};
 use crate::line::Line;
-use crate::request::Request;
-use anyhow::Result;
 use crate::ops::Op;
 use crate::protocol::{self, HandshakeInfo, StderrResult};
+use crate::request::Request;
 use crate::script::{ErrorInfo, FramedData, OpCall, PathInfoResult, ResultData};
+use anyhow::Result;
 
 pub fn answer(q: &Request) -> Answer {
     match q.call {
@@ -55,50 +55,23 @@ fn arguments(call: Option<OpCall>) -> Line {
         OpCall::SinglePath { path, .. } => Line::of_kind(1).string(path),
         OpCall::SingleString { value, .. } => Line::of_kind(2).string(value),
         OpCall::PathSet { paths, .. } => Line::of_kind(3).set(0, paths),
-        OpCall::PathSetFlag {
-            paths, substitute, ..
-        } => Line::of_kind(4).set(0, paths).numbers(&[substitute as u64]),
-        OpCall::PathSetMode { paths, mode, .. } => Line::of_kind(5)
-            .set(0, paths)
-            .numbers(&[mode_number(&mode)]),
+        OpCall::PathSetFlag { paths, substitute, .. } => Line::of_kind(4).set(0, paths).numbers(&[substitute as u64]),
+        OpCall::PathSetMode { paths, mode, .. } => Line::of_kind(5).set(0, paths).numbers(&[mode_number(&mode)]),
         OpCall::NoArgs { .. } => Line::of_kind(6),
         options @ OpCall::SetOptions { .. } => set_options(options),
-        OpCall::CollectGarbage {
-            action,
-            paths,
-            ignore_liveness,
-            max_freed,
-        } => Line::of_kind(8)
-            .set(0, paths)
-            .numbers(&[action, ignore_liveness, max_freed]),
-        OpCall::VerifyStore {
-            check_contents,
-            repair,
-        } => Line::of_kind(9).numbers(&[check_contents as u64, repair as u64]),
+        OpCall::CollectGarbage { action, paths, ignore_liveness, max_freed } => {
+            Line::of_kind(8).set(0, paths).numbers(&[action, ignore_liveness, max_freed])
+        }
+        OpCall::VerifyStore { check_contents, repair } => Line::of_kind(9).numbers(&[check_contents as u64, repair as u64]),
         OpCall::AddPermRoot { path, gc_root } => Line::of_kind(10).string(path).string(gc_root),
         OpCall::AddSignatures { path, sigs } => Line::of_kind(11).string(path).set(0, sigs),
-        OpCall::AddTextToStore { suffix, text, refs } => {
-            Line::of_kind(12).string(suffix).string(text).set(0, refs)
+        OpCall::AddTextToStore { suffix, text, refs } => Line::of_kind(12).string(suffix).string(text).set(0, refs),
+        OpCall::AddToStore { name, cam_str, refs, repair, data } => {
+            Line::of_kind(13).string(name).string(cam_str).set(0, refs).numbers(&[repair as u64]).payload(inline(data))
         }
-        OpCall::AddToStore {
-            name,
-            cam_str,
-            refs,
-            repair,
-            data,
-        } => Line::of_kind(13)
-            .string(name)
-            .string(cam_str)
-            .set(0, refs)
-            .numbers(&[repair as u64])
-            .payload(inline(data)),
-        OpCall::AddMultipleToStore {
-            repair,
-            dont_check_sigs,
-            data,
-        } => Line::of_kind(14)
-            .numbers(&[repair as u64, dont_check_sigs as u64])
-            .payload(inline(data)),
+        OpCall::AddMultipleToStore { repair, dont_check_sigs, data } => {
+            Line::of_kind(14).numbers(&[repair as u64, dont_check_sigs as u64]).payload(inline(data))
+        }
         OpCall::AddBuildLog { path, data } => Line::of_kind(15).string(path).payload(inline(data)),
         OpCall::RegisterDrvOutput { value } => Line::of_kind(16).string(value),
         OpCall::QueryRealisation { value } => Line::of_kind(17).string(value),
@@ -170,11 +143,7 @@ fn skipped_arguments(op: Op, text: Option<String>) -> Line {
         _ => 2,
     };
     let count = match kind {
-        3 | 4 => text
-            .split(' ')
-            .next()
-            .and_then(|n| n.parse().ok())
-            .expect("a count and a word"),
+        3 | 4 => text.split(' ').next().and_then(|n| n.parse().ok()).expect("a count and a word"),
         _ => 0,
     };
     Line::of_kind(kind).numbers(&[count]).string(text)
@@ -189,11 +158,7 @@ fn path_info(info: PathInfoResult) -> Line {
         .string(info.deriver.expect(has))
         .string(info.nar_hash.expect(has))
         .set(0, info.references.expect(has))
-        .numbers(&[
-            info.registration_time.expect(has),
-            info.nar_size.expect(has),
-            info.ultimate.unwrap_or(false) as u64,
-        ]);
+        .numbers(&[info.registration_time.expect(has), info.nar_size.expect(has), info.ultimate.unwrap_or(false) as u64]);
     match (info.sigs, info.ca) {
         (Some(sigs), Some(ca)) => line.set(1, sigs).string(ca),
         _ => line,
@@ -215,22 +180,11 @@ fn reply(data: ResultData) -> Line {
             download_size: Some(download_size),
             nar_size: Some(nar_size),
             ..
-        } => Line::of_kind(9)
-            .string(deriver)
-            .set(0, refs)
-            .numbers(&[download_size, nar_size]),
+        } => Line::of_kind(9).string(deriver).set(0, refs).numbers(&[download_size, nar_size]),
         ResultData::SubstitutablePathInfo { .. } => Line::of_kind(10),
-        ResultData::Missing {
-            will_build,
-            will_substitute,
-            unknown,
-            download_size,
-            nar_size,
-        } => Line::of_kind(11)
-            .set(0, will_build)
-            .set(1, will_substitute)
-            .set(2, unknown)
-            .numbers(&[download_size, nar_size]),
+        ResultData::Missing { will_build, will_substitute, unknown, download_size, nar_size } => {
+            Line::of_kind(11).set(0, will_build).set(1, will_substitute).set(2, unknown).numbers(&[download_size, nar_size])
+        }
         ResultData::Framed(data) => Line::of_kind(12).payload(data),
         ResultData::Raw(_) => unreachable!("no reader answers raw bytes"),
     }
@@ -261,11 +215,7 @@ fn read_stderr_with_error(q: &Request) -> Result<Line> {
 
 fn handshake(info: HandshakeInfo) -> Line {
     let mut numbers = [0; 9];
-    let versions = [
-        info.client_version,
-        info.server_version,
-        info.negotiated_version,
-    ];
+    let versions = [info.client_version, info.server_version, info.negotiated_version];
     for (i, v) in versions.iter().enumerate() {
         numbers[2 * i] = v.major as u64;
         numbers[2 * i + 1] = v.minor as u64;
@@ -273,10 +223,7 @@ fn handshake(info: HandshakeInfo) -> Line {
     numbers[6] = info.daemon_nix_version.is_some() as u64;
     numbers[7] = info.trust_status.is_some() as u64;
     numbers[8] = info.trust_status.unwrap_or(0);
-    let line = Line::default()
-        .numbers(&numbers)
-        .set(0, info.client_features)
-        .set(1, info.server_features);
+    let line = Line::default().numbers(&numbers).set(0, info.client_features).set(1, info.server_features);
     match info.daemon_nix_version {
         Some(s) => line.string(s),
         None => line,
@@ -286,17 +233,11 @@ fn handshake(info: HandshakeInfo) -> Line {
 fn parse_handshake(q: &Request) -> Result<Line> {
     let (client, daemon) = (&mut over(&q.a), &mut over(&q.b));
     let info = run(protocol::parse_handshake(client, daemon))?;
-    Ok(Line {
-        end2: position(daemon),
-        ..handshake(info).ending(position(client))
-    })
+    Ok(Line { end2: position(daemon), ..handshake(info).ending(position(client)) })
 }
 
 fn parse_daemon_handshake(q: &Request) -> Result<Line> {
     let daemon = &mut over(&q.b);
     let info = run(protocol::parse_daemon_handshake(daemon, q.version()))?;
-    Ok(Line {
-        end2: position(daemon),
-        ..handshake(info)
-    })
+    Ok(Line { end2: position(daemon), ..handshake(info) })
 }

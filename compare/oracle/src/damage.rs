@@ -19,24 +19,11 @@ fn change_length(s: &mut Stream) {
     }
     let at = s.dice.pick(&s.lengths);
     let now = number_at(&s.bytes, at);
-    let near = [
-        now + 1,
-        now.saturating_sub(1),
-        now + 8,
-        now.saturating_sub(8),
-    ];
+    let near = [now + 1, now.saturating_sub(1), now + 8, now.saturating_sub(8)];
     let x = match s.dice.below(3) {
         0 => s.dice.pick(&[0, 1, 7, 8, 9]),
         1 => s.dice.pick(&near),
-        _ => s.dice.pick(&[
-            LIMIT - 1,
-            LIMIT,
-            LIMIT + 1,
-            1 << 32,
-            1 << 63,
-            u64::MAX,
-            s.bytes.len() as u64,
-        ]),
+        _ => s.dice.pick(&[LIMIT - 1, LIMIT, LIMIT + 1, 1 << 32, 1 << 63, u64::MAX, s.bytes.len() as u64]),
     };
     change_number(&mut s.bytes, at, x);
 }
@@ -49,9 +36,7 @@ fn change_count(s: &mut Stream) {
     let at = s.dice.pick(&s.counts);
     let now = number_at(&s.bytes, at);
     let len = s.bytes.len() as u64;
-    let x = s
-        .dice
-        .pick(&[0, 1, now + 1, now.saturating_sub(1), 2 * now, len / 8, len]);
+    let x = s.dice.pick(&[0, 1, now + 1, now.saturating_sub(1), 2 * now, len / 8, len]);
     change_number(&mut s.bytes, at, x.min(len));
 }
 
@@ -60,11 +45,7 @@ pub fn damage(s: &mut Stream) {
     match s.dice.below(100) {
         0..=17 if !s.bytes.is_empty() => {
             let at = s.dice.below(s.bytes.len());
-            s.bytes[at] = if s.dice.one_in(2) {
-                s.dice.next() as u8
-            } else {
-                s.bytes[at] ^ 1 << s.dice.below(8)
-            };
+            s.bytes[at] = if s.dice.one_in(2) { s.dice.next() as u8 } else { s.bytes[at] ^ 1 << s.dice.below(8) };
         }
         18..=39 => change_length(s),
         40..=51 => change_count(s),

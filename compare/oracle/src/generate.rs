@@ -9,9 +9,7 @@ use crate::tables;
 pub fn requests(seed: u64) -> impl Iterator<Item = Request> {
     let mut dice = Dice::new(seed);
     let first = tables::requests(&mut dice);
-    first
-        .into_iter()
-        .chain(std::iter::repeat_with(move || any(&mut dice)))
+    first.into_iter().chain(std::iter::repeat_with(move || any(&mut dice)))
 }
 
 fn any(dice: &mut Dice) -> Request {
@@ -49,16 +47,7 @@ fn with_stream(dice: &mut Dice, first: u64, last: u64) -> Request {
     tables::fill(&mut s, call, operation, (major, minor));
     damage(&mut s);
     let (a, kept, payload) = (s.bytes, s.kept, s.payload);
-    Request {
-        call,
-        operation,
-        major,
-        minor,
-        slots: lent(dice, kept),
-        room: lent(dice, payload),
-        a,
-        b: vec![],
-    }
+    Request { call, operation, major, minor, slots: lent(dice, kept), room: lent(dice, payload), a, b: vec![] }
 }
 
 fn handshake(dice: &mut Dice) -> Request {
@@ -80,15 +69,7 @@ fn handshake(dice: &mut Dice) -> Request {
     }
     let (b, kept) = (s.bytes, kept + s.kept);
     let call = 7 + dice.below(2) as u64;
-    Request {
-        call,
-        major: client.0,
-        minor: client.1,
-        slots: lent(dice, kept),
-        a,
-        b,
-        ..Request::default()
-    }
+    Request { call, major: client.0, minor: client.1, slots: lent(dice, kept), a, b, ..Request::default() }
 }
 
 fn padded(n: usize) -> usize {
@@ -98,11 +79,7 @@ fn padded(n: usize) -> usize {
 fn writer(dice: &mut Dice) -> Request {
     let call = dice.pick(&[20, 21, 22, 23, 23, 24, 24, 26, 27, 28]);
     let operation = dice.number();
-    let a = if dice.one_in(4) {
-        rough(dice)
-    } else {
-        text(dice)
-    };
+    let a = if dice.one_in(4) { rough(dice) } else { text(dice) };
     let need = match call {
         20 => 8,
         21 => 4,
@@ -113,13 +90,7 @@ fn writer(dice: &mut Dice) -> Request {
         27 => operation.to_string().len() + 6,
         _ => operation.to_string().len() + 10,
     };
-    Request {
-        call,
-        operation,
-        room: lent(dice, need),
-        a,
-        ..Request::default()
-    }
+    Request { call, operation, room: lent(dice, need), a, ..Request::default() }
 }
 
 // Parts of one text, which may overlap; sometimes one that passes its end, or a count that does.
@@ -134,56 +105,24 @@ fn set_writer(dice: &mut Dice) -> Request {
         b.extend((len as u64).to_le_bytes());
         need += padded(len);
     }
-    let cut = b.len()
-        - if dice.one_in(20) {
-            dice.below(b.len() + 1)
-        } else {
-            0
-        };
+    let cut = b.len() - if dice.one_in(20) { dice.below(b.len() + 1) } else { 0 };
     b.truncate(cut);
     let operation = n as u64 + dice.one_in(20) as u64;
-    Request {
-        call: 24,
-        operation,
-        room: lent(dice, need),
-        a,
-        b,
-        ..Request::default()
-    }
+    Request { call: 24, operation, room: lent(dice, need), a, b, ..Request::default() }
 }
 
 fn test(dice: &mut Dice) -> Request {
     match dice.below(4) {
-        0 | 1 => Request {
-            call: 30,
-            a: store_path(dice),
-            ..Request::default()
-        },
-        2 => Request {
-            call: 31,
-            operation: operation(dice),
-            ..Request::default()
-        },
-        _ => Request {
-            call: 33,
-            operation: if dice.one_in(2) {
-                dice.next()
-            } else {
-                dice.number()
-            },
-            ..Request::default()
-        },
+        0 | 1 => Request { call: 30, a: store_path(dice), ..Request::default() },
+        2 => Request { call: 31, operation: operation(dice), ..Request::default() },
+        _ => Request { call: 33, operation: if dice.one_in(2) { dice.next() } else { dice.number() }, ..Request::default() },
     }
 }
 
 fn store_path(dice: &mut Dice) -> Vec<u8> {
     let mut path = b"/nix/store/".to_vec();
     let whole = 40 + dice.below(8);
-    path.extend(if dice.one_in(3) {
-        rough(dice)
-    } else {
-        text(dice)
-    });
+    path.extend(if dice.one_in(3) { rough(dice) } else { text(dice) });
     path.resize(whole, b'y');
     if dice.one_in(4) {
         let at = dice.below(12);

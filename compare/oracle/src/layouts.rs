@@ -4,17 +4,12 @@ use crate::stream::Stream;
 
 pub type Version = (u64, u64);
 
-pub const OPERATIONS: [u64; 37] = [
-    1, 6, 7, 8, 9, 10, 11, 12, 13, 14, 18, 19, 20, 21, 22, 23, 26, 28, 29, 30, 31, 32, 33, 34, 35,
-    36, 37, 38, 39, 40, 41, 42, 43, 44, 45, 46, 47,
-];
+pub const OPERATIONS: [u64; 37] =
+    [1, 6, 7, 8, 9, 10, 11, 12, 13, 14, 18, 19, 20, 21, 22, 23, 26, 28, 29, 30, 31, 32, 33, 34, 35, 36, 37, 38, 39, 40, 41, 42, 43, 44, 45, 46, 47];
 
 /// 1.9 to 1.38, which has every gate and its neighbours, and versions of other majors.
 pub fn versions() -> Vec<Version> {
-    (9..=38)
-        .map(|minor| (1, minor))
-        .chain([(0, 255), (2, 0), (65535, 255)])
-        .collect()
+    (9..=38).map(|minor| (1, minor)).chain([(0, 255), (2, 0), (65535, 255)]).collect()
 }
 
 /// Arguments; those of `skip_op_args` stop before framed data.
@@ -179,9 +174,7 @@ fn fields(s: &mut Stream) {
 }
 
 fn message(s: &mut Stream) {
-    let code = s
-        .dice
-        .pick(&[NEXT, WRITE, READ, START_ACTIVITY, STOP_ACTIVITY, RESULT]);
+    let code = s.dice.pick(&[NEXT, WRITE, READ, START_ACTIVITY, STOP_ACTIVITY, RESULT]);
     s.put(code);
     match code {
         NEXT | WRITE => s.quiet(),
@@ -231,11 +224,7 @@ pub const DAEMON_MAGIC: u64 = 0x6478696f;
 
 // Bits above the sixteenth count for nothing.
 fn version(s: &mut Stream, v: Version) {
-    let above = if s.is_tidy || s.dice.below(4) > 0 {
-        0
-    } else {
-        s.dice.next() << 16
-    };
+    let above = if s.is_tidy || s.dice.below(4) > 0 { 0 } else { s.dice.next() << 16 };
     s.put(above | v.0 << 8 | v.1);
 }
 
@@ -273,28 +262,13 @@ pub fn words(dice: &mut Dice) -> Vec<u8> {
     let mut bytes = Vec::new();
     for _ in 0..dice.below(14) {
         let x = match dice.below(10) {
-            0 => dice.pick(&[
-                LAST,
-                ERROR,
-                NEXT,
-                RESULT,
-                START_ACTIVITY,
-                CLIENT_MAGIC,
-                DAEMON_MAGIC,
-            ]),
+            0 => dice.pick(&[LAST, ERROR, NEXT, RESULT, START_ACTIVITY, CLIENT_MAGIC, DAEMON_MAGIC]),
             1 => dice.next(),
             2 => dice.pick(&[7, 8, 9, 16, 17]),
             _ => dice.below(3) as u64,
         };
         bytes.extend(x.to_le_bytes());
     }
-    bytes.truncate(
-        bytes.len()
-            - if dice.one_in(3) {
-                dice.below(8).min(bytes.len())
-            } else {
-                0
-            },
-    );
+    bytes.truncate(bytes.len() - if dice.one_in(3) { dice.below(8).min(bytes.len()) } else { 0 });
     bytes
 }

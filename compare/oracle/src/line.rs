@@ -14,10 +14,7 @@ pub struct Line {
 
 impl Line {
     pub fn of_kind(kind: u64) -> Line {
-        Line {
-            kind,
-            ..Line::default()
-        }
+        Line { kind, ..Line::default() }
     }
 
     pub fn numbers(mut self, numbers: &[u64]) -> Line {
@@ -71,11 +68,7 @@ fn hex(f: &mut fmt::Formatter, bytes: &[u8]) -> fmt::Result {
 
 impl fmt::Display for Line {
     fn fmt(&self, f: &mut fmt::Formatter) -> fmt::Result {
-        write!(
-            f,
-            "ok kind={} end={} end2={} n=",
-            self.kind, self.end, self.end2
-        )?;
+        write!(f, "ok kind={} end={} end2={} n=", self.kind, self.end, self.end2)?;
         list(f, &self.numbers)?;
         f.write_str(" c=")?;
         list(f, &self.counts)?;

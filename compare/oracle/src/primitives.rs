@@ -1,12 +1,12 @@
 //! Calls 9 to 33: nix-wire's wire_async.rs and wire.rs, and the small modules.
 use crate::answer::{over, position, run, Answer};
-use crate::line::Line;
-use crate::request::Request;
-use anyhow::{Context, Result};
 use crate::handshake::ProtocolVersion;
+use crate::line::Line;
 use crate::ops::Op;
+use crate::request::Request;
 use crate::script::OpCall;
 use crate::{protocol, wire};
+use anyhow::{Context, Result};
 
 pub fn read(q: &Request) -> Answer {
     read_call(q).into()
@@ -18,10 +18,7 @@ fn read_call(q: &Request) -> Result<Line> {
     let line = match q.call {
         9 => number(run(r.read_u64())?),
         10 => number(run(r.read_u32())?.into()),
-        11 => Line {
-            strings: vec![run(r.read_bytes())?],
-            ..Line::default()
-        },
+        11 => Line { strings: vec![run(r.read_bytes())?], ..Line::default() },
         12 => Line::default().string(run(r.read_string())?),
         13 => run(r.skip_string()).map(|()| Line::default())?,
         14 => Line::default().set(0, run(r.read_string_set())?),
@@ -57,17 +54,11 @@ fn write_call(q: &Request) -> Result<Vec<u8>> {
 
 // nix-wire's writer takes strings: where an entry gives none, there is nothing that it could be asked to write.
 fn strings(q: &Request) -> Result<Vec<String>> {
-    let number = |i: usize| -> Option<usize> {
-        Some(u64::from_le_bytes(q.b.get(8 * i..8 * i + 8)?.try_into().ok()?) as usize)
-    };
+    let number = |i: usize| -> Option<usize> { Some(u64::from_le_bytes(q.b.get(8 * i..8 * i + 8)?.try_into().ok()?) as usize) };
     let string = |i: usize| -> Result<String> {
-        let (start, len) = number(2 * i)
-            .zip(number(2 * i + 1))
-            .context("no such entry")?;
+        let (start, len) = number(2 * i).zip(number(2 * i + 1)).context("no such entry")?;
         let end = start.checked_add(len).context("bad entry")?;
-        Ok(String::from_utf8(
-            q.a.get(start..end).context("bad entry")?.to_vec(),
-        )?)
+        Ok(String::from_utf8(q.a.get(start..end).context("bad entry")?.to_vec())?)
     };
     (0..q.operation as usize).map(string).collect()
 }
@@ -75,11 +66,7 @@ fn strings(q: &Request) -> Result<Vec<String>> {
 // The text stands in the answer of BuildPaths: an empty set and the mode.
 fn mode(x: u64) -> Result<String> {
     let stream = [[0; 8], x.to_le_bytes()].concat();
-    match run(protocol::read_op_args(
-        Op::BuildPaths,
-        ProtocolVersion::new(1, 38),
-        &mut over(&stream),
-    ))? {
+    match run(protocol::read_op_args(Op::BuildPaths, ProtocolVersion::new(1, 38), &mut over(&stream)))? {
         Some(OpCall::PathSetMode { mode, .. }) => Ok(mode),
         _ => unreachable!("BuildPaths has a mode"),
     }
@@ -96,11 +83,7 @@ fn counted(op: Op, before: &[u8], count: u64, each: usize, word: &str) -> Result
     let mut stream = before.to_vec();
     stream.extend(count.to_le_bytes());
     stream.resize(stream.len() + 8 * each * count as usize, 0);
-    let text = run(protocol::skip_op_args(
-        op,
-        ProtocolVersion::new(1, 38),
-        &mut over(&stream),
-    ))?;
+    let text = run(protocol::skip_op_args(op, ProtocolVersion::new(1, 38), &mut over(&stream)))?;
     text.context("an operation with a text")
 }
 
@@ -108,9 +91,7 @@ pub fn test(q: &Request) -> Answer {
     let yes = |b: bool| Answer::Ok(Line::of_kind(b as u64));
     match q.call {
         30 => yes(wire::extract_store_path(&q.a).is_some()),
-        31 => Op::from_u64(q.operation).map_or(Answer::Out, |op| {
-            yes(protocol::op_has_client_framed_data(op))
-        }),
+        31 => Op::from_u64(q.operation).map_or(Answer::Out, |op| yes(protocol::op_has_client_framed_data(op))),
         _ => {
             let v = ProtocolVersion::from_wire(q.operation);
             Answer::Ok(Line::default().numbers(&[v.major as u64, v.minor as u64]))

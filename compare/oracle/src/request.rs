@@ -20,14 +20,7 @@ impl Request {
     }
 
     pub fn write(&self, out: &mut impl Write) -> io::Result<()> {
-        for x in [
-            self.call,
-            self.operation,
-            self.major,
-            self.minor,
-            self.slots,
-            self.room,
-        ] {
+        for x in [self.call, self.operation, self.major, self.minor, self.slots, self.room] {
             out.write_all(&x.to_le_bytes())?;
         }
         for s in [&self.a, &self.b] {

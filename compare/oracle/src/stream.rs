@@ -3,24 +3,11 @@ use crate::dice::Dice;
 
 /// The first and last of each row of RFC 3629, section 4, and their neighbours: bytes of which random strings are often almost text.
 pub const EDGES: [u8; 25] = [
-    0x00, 0x41, 0x7f, 0x80, 0x8f, 0x90, 0x9f, 0xa0, 0xbf, 0xc0, 0xc1, 0xc2, 0xdf, 0xe0, 0xe1, 0xec,
-    0xed, 0xee, 0xef, 0xf0, 0xf1, 0xf3, 0xf4, 0xf5, 0xff,
+    0x00, 0x41, 0x7f, 0x80, 0x8f, 0x90, 0x9f, 0xa0, 0xbf, 0xc0, 0xc1, 0xc2, 0xdf, 0xe0, 0xe1, 0xec, 0xed, 0xee, 0xef, 0xf0, 0xf1, 0xf3, 0xf4, 0xf5,
+    0xff,
 ];
 
-const LETTERS: [char; 12] = [
-    'a',
-    '/',
-    '\0',
-    '\u{7f}',
-    '\u{80}',
-    '\u{7ff}',
-    '\u{800}',
-    '\u{d7ff}',
-    '\u{e000}',
-    '\u{ffff}',
-    '\u{10000}',
-    '\u{10ffff}',
-];
+const LETTERS: [char; 12] = ['a', '/', '\0', '\u{7f}', '\u{80}', '\u{7ff}', '\u{800}', '\u{d7ff}', '\u{e000}', '\u{ffff}', '\u{10000}', '\u{10ffff}'];
 
 /// Lengths on both sides of the padding's steps, and now and then a long string.
 fn length(dice: &mut Dice) -> usize {
@@ -35,9 +22,7 @@ fn length(dice: &mut Dice) -> usize {
 pub fn text(dice: &mut Dice) -> Vec<u8> {
     let n = length(dice);
     let plain = if dice.one_in(2) { n } else { dice.below(n + 1) };
-    let mut s: String = (0..plain)
-        .map(|_| (b'a' + dice.below(26) as u8) as char)
-        .collect();
+    let mut s: String = (0..plain).map(|_| (b'a' + dice.below(26) as u8) as char).collect();
     while s.len() < n {
         s.push(dice.pick(&LETTERS));
     }
@@ -50,10 +35,7 @@ pub fn rough(dice: &mut Dice) -> Vec<u8> {
     for _ in 0..1 + dice.below(6) {
         s.push(dice.pick(&EDGES));
     }
-    s.resize(
-        s.len() + if dice.one_in(3) { dice.below(16) } else { 0 },
-        b'z',
-    );
+    s.resize(s.len() + if dice.one_in(3) { dice.below(16) } else { 0 }, b'z');
     s
 }
 
@@ -70,15 +52,7 @@ pub struct Stream<'a> {
 
 impl Stream<'_> {
     pub fn new(dice: &mut Dice, is_tidy: bool) -> Stream<'_> {
-        Stream {
-            dice,
-            is_tidy,
-            bytes: vec![],
-            lengths: vec![],
-            counts: vec![],
-            kept: 0,
-            payload: 0,
-        }
+        Stream { dice, is_tidy, bytes: vec![], lengths: vec![], counts: vec![], kept: 0, payload: 0 }
     }
 
     pub fn put(&mut self, x: u64) {
@@ -102,11 +76,7 @@ impl Stream<'_> {
     }
 
     fn count(&mut self) -> usize {
-        let n = if self.dice.one_in(30) {
-            self.dice.below(40)
-        } else {
-            self.dice.below(4)
-        };
+        let n = if self.dice.one_in(30) { self.dice.below(40) } else { self.dice.below(4) };
         self.counts.push(self.bytes.len());
         self.put(n as u64);
         n
@@ -114,11 +84,7 @@ impl Stream<'_> {
 
     /// A string that no reader keeps.
     pub fn quiet(&mut self) {
-        let s = if !self.is_tidy && self.dice.one_in(12) {
-            rough(self.dice)
-        } else {
-            text(self.dice)
-        };
+        let s = if !self.is_tidy && self.dice.one_in(12) { rough(self.dice) } else { text(self.dice) };
         self.string(&s);
     }
 
@@ -127,11 +93,7 @@ impl Stream<'_> {
         self.put(s.len() as u64);
         self.bytes.extend(s);
         let padding = (8 - s.len() % 8) % 8;
-        let filler = if self.is_tidy {
-            vec![0; padding]
-        } else {
-            self.dice.bytes(padding)
-        };
+        let filler = if self.is_tidy { vec![0; padding] } else { self.dice.bytes(padding) };
         self.bytes.extend(filler);
     }
 

@@ -30,16 +30,7 @@ fn operations(dice: &mut Dice) -> Vec<Request> {
                 let mut s = Stream::new(dice, true);
                 fill(&mut s, call, op, (major, minor));
                 let (slots, room) = (s.kept as u64, s.payload as u64);
-                all.push(Request {
-                    call,
-                    operation: op,
-                    major,
-                    minor,
-                    slots,
-                    room,
-                    a: s.bytes,
-                    b: vec![],
-                });
+                all.push(Request { call, operation: op, major, minor, slots, room, a: s.bytes, b: vec![] });
             }
         }
     }
@@ -48,10 +39,7 @@ fn operations(dice: &mut Dice) -> Vec<Request> {
 
 /// On the wire a major has eight bits.
 pub fn wire_versions() -> Vec<Version> {
-    layouts::versions()
-        .into_iter()
-        .map(|(major, minor)| (major.min(255), minor))
-        .collect()
+    layouts::versions().into_iter().map(|(major, minor)| (major.min(255), minor)).collect()
 }
 
 struct Handshake {
@@ -67,20 +55,8 @@ fn handshake(dice: &mut Dice, call: u64, client: Version, daemon: Version) -> Ha
     let mut s = Stream::new(dice, true);
     layouts::daemon(&mut s, daemon, client.min(daemon));
     let (b, slots, daemon_lengths) = (s.bytes, (kept + s.kept) as u64, s.lengths);
-    let request = Request {
-        call,
-        major: client.0,
-        minor: client.1,
-        slots,
-        a,
-        b,
-        ..Request::default()
-    };
-    Handshake {
-        request,
-        client_lengths,
-        daemon_lengths,
-    }
+    let request = Request { call, major: client.0, minor: client.1, slots, a, b, ..Request::default() };
+    Handshake { request, client_lengths, daemon_lengths }
 }
 
 fn handshakes(dice: &mut Dice) -> Vec<Request> {
@@ -104,29 +80,11 @@ fn lengths(_: &mut Dice) -> Vec<Request> {
         for length in (0..=17).chain([LIMIT - 1, LIMIT, LIMIT + 1, 1 << 32, 1 << 63, u64::MAX]) {
             let contents = if length <= 17 { length as usize } else { 0 };
             let padded = contents.div_ceil(8) * 8;
-            for there in [
-                0,
-                contents.saturating_sub(1),
-                contents,
-                padded.saturating_sub(1),
-                padded,
-                contents + 8,
-                padded + 8,
-            ] {
-                let mut a = if call == 14 || call == 15 {
-                    1u64.to_le_bytes().to_vec()
-                } else {
-                    vec![]
-                };
+            for there in [0, contents.saturating_sub(1), contents, padded.saturating_sub(1), padded, contents + 8, padded + 8] {
+                let mut a = if call == 14 || call == 15 { 1u64.to_le_bytes().to_vec() } else { vec![] };
                 a.extend(length.to_le_bytes());
                 a.resize(a.len() + there, if there > padded { 0 } else { b'x' });
-                all.push(Request {
-                    call,
-                    slots: 1,
-                    room: 17,
-                    a,
-                    ..Request::default()
-                });
+                all.push(Request { call, slots: 1, room: 17, a, ..Request::default() });
             }
         }
     }
@@ -158,16 +116,7 @@ fn bad_texts(dice: &mut Dice) -> Vec<Request> {
                 let mut s = Stream::new(dice, true);
                 fill(&mut s, call, operation, (1, minor));
                 let (slots, room, lengths) = (s.kept as u64, s.payload as u64, s.lengths);
-                let q = Request {
-                    call,
-                    operation,
-                    major: 1,
-                    minor,
-                    slots,
-                    room,
-                    a: s.bytes,
-                    b: vec![],
-                };
+                let q = Request { call, operation, major: 1, minor, slots, room, a: s.bytes, b: vec![] };
                 all.extend(each_bad(q, &lengths, false));
             }
         }
@@ -176,16 +125,7 @@ fn bad_texts(dice: &mut Dice) -> Vec<Request> {
         let mut s = Stream::new(dice, true);
         fill(&mut s, 6, 0, (1, 38));
         let (slots, lengths) = (s.kept as u64, s.lengths);
-        all.extend(each_bad(
-            Request {
-                call: 5 + i % 2,
-                slots,
-                a: s.bytes,
-                ..Request::default()
-            },
-            &lengths,
-            false,
-        ));
+        all.extend(each_bad(Request { call: 5 + i % 2, slots, a: s.bytes, ..Request::default() }, &lengths, false));
         let q = handshake(dice, 7 + i % 2, (1, 38), (1, 38));
         all.extend(each_bad(q.request.clone(), &q.client_lengths, false));
         all.extend(each_bad(q.request, &q.daemon_lengths, true));
@@ -195,14 +135,7 @@ fn bad_texts(dice: &mut Dice) -> Vec<Request> {
 
 // Characters of two, three and four bytes with each octet at an edge, behind letters that move them along.
 fn texts(_: &mut Dice) -> Vec<Request> {
-    let pairs = [
-        [0x80, 0x80],
-        [0xbf, 0xbf],
-        [0x7f, 0x80],
-        [0xc0, 0x80],
-        [0x80, 0x7f],
-        [0x80, 0xc0],
-    ];
+    let pairs = [[0x80, 0x80], [0xbf, 0xbf], [0x7f, 0x80], [0xc0, 0x80], [0x80, 0x7f], [0x80, 0xc0]];
     let mut strings: Vec<Vec<u8>> = EDGES.iter().map(|&x| vec![x]).collect();
     for x in EDGES.into_iter().filter(|&x| x >= 0xc0) {
         for y in EDGES {
@@ -213,18 +146,11 @@ fn texts(_: &mut Dice) -> Vec<Request> {
             }
         }
     }
-    let moved = strings
-        .into_iter()
-        .enumerate()
-        .map(|(i, s)| [vec![b'a'; i % 17], s].concat());
+    let moved = strings.into_iter().enumerate().map(|(i, s)| [vec![b'a'; i % 17], s].concat());
     let request = |s: Vec<u8>| {
         let padding = vec![0; s.len().div_ceil(8) * 8 - s.len()];
         let a = [(s.len() as u64).to_le_bytes().to_vec(), s, padding].concat();
-        Request {
-            call: 12,
-            a,
-            ..Request::default()
-        }
+        Request { call: 12, a, ..Request::default() }
     };
     moved.map(request).collect()
 }
