@@ -69,7 +69,6 @@ fn case(table: &str, stream: &Stream, through: Through, call: Call, samples: usi
         if call == Call::Read { "read" } else { "skip" }.to_string(),
         stream.size.to_string(),
         stream.pieces().to_string(),
-        stream.bytes.len().to_string(),
         (figures.ours / pieces).to_string(),
         (figures.theirs / pieces).to_string(),
         figures.ratio.to_string(),

@@ -1,20 +1,16 @@
 //! nix-wire's side: its own reader in memory, which never waits, so that one poll ends each future.
 use crate::streams::{Shape, Stream};
 use crate::{operation, Call, Side, Through};
+use nix_wire::answer::{over, position, run, Reader};
 use nix_wire::handshake::ProtocolVersion;
 use nix_wire::ops::Op;
 use nix_wire::protocol;
 use nix_wire::script::ResultData;
-use nix_wire::wire_async::{AsyncWireReader, MemReader};
 use std::fmt::Debug;
 use std::future::Future;
 use std::hint::black_box;
-use std::pin::pin;
-use std::task::{Context, Poll, Waker};
 
 const VERSION: ProtocolVersion = ProtocolVersion::new(crate::VERSION.0, crate::VERSION.1);
-
-type Reader = AsyncWireReader<MemReader>;
 
 enum Answer {
     Reply(ResultData),
@@ -31,20 +27,13 @@ pub struct Theirs<'s> {
     answers: Vec<Answer>,
 }
 
-fn reader(bytes: &[u8]) -> Reader {
-    AsyncWireReader::new(MemReader::new(bytes.to_vec()))
-}
-
-fn run<T, E: Debug>(f: impl Future<Output = Result<T, E>>) -> T {
-    match pin!(f).poll(&mut Context::from_waker(Waker::noop())) {
-        Poll::Ready(r) => r.expect("a good stream"),
-        Poll::Pending => unreachable!("MemReader is never pending"),
-    }
+fn good<T, E: Debug>(f: impl Future<Output = Result<T, E>>) -> T {
+    run(f).expect("a good stream")
 }
 
 impl<'s> Theirs<'s> {
     pub fn new(stream: &'s Stream, through: Through, call: Call) -> Theirs<'s> {
-        Theirs { stream, through, call, reader: reader(&[]), answers: Vec::with_capacity(stream.replies) }
+        Theirs { stream, through, call, reader: over(&[]), answers: Vec::with_capacity(stream.replies) }
     }
 
     /// What was read, each string or all chunks of a reply.
@@ -61,17 +50,17 @@ impl<'s> Theirs<'s> {
 
 fn read(shape: Shape, through: Through, op: Op, r: &mut Reader) -> Answer {
     match (through, shape) {
-        (Through::Reply, _) => Answer::Reply(run(protocol::read_daemon_result(op, VERSION, r))),
-        (Through::Wire, Shape::Set) => Answer::Strings(run(r.read_string_set())),
-        (Through::Wire, Shape::Framed) => Answer::Bytes(run(r.read_framed())),
+        (Through::Reply, _) => Answer::Reply(good(protocol::read_daemon_result(op, VERSION, r))),
+        (Through::Wire, Shape::Set) => Answer::Strings(good(r.read_string_set())),
+        (Through::Wire, Shape::Framed) => Answer::Bytes(good(r.read_framed())),
     }
 }
 
 fn skip(shape: Shape, through: Through, op: Op, r: &mut Reader) {
     match (through, shape) {
-        (Through::Reply, _) => run(protocol::skip_daemon_result(op, VERSION, r)),
-        (Through::Wire, Shape::Set) => _ = black_box(run(r.skip_string_set())),
-        (Through::Wire, Shape::Framed) => _ = black_box(run(r.skip_framed())),
+        (Through::Reply, _) => good(protocol::skip_daemon_result(op, VERSION, r)),
+        (Through::Wire, Shape::Set) => _ = black_box(good(r.skip_string_set())),
+        (Through::Wire, Shape::Framed) => _ = black_box(good(r.skip_framed())),
     }
 }
 
@@ -82,7 +71,7 @@ impl Side for Theirs<'_> {
 
     fn prepare(&mut self) {
         self.answers.clear();
-        self.reader = reader(&self.stream.bytes);
+        self.reader = over(&self.stream.bytes);
     }
 
     fn pass(&mut self) {
@@ -96,6 +85,6 @@ impl Side for Theirs<'_> {
     }
 
     fn end(&self) -> usize {
-        self.reader.inner_ref().position()
+        position(&self.reader)
     }
 }
