@@ -19,7 +19,6 @@ impl Difference {
     }
 }
 
-#[derive(Default)]
 pub struct Tally {
     counts: Vec<[u64; 5]>,
     smallest: Option<Difference>,

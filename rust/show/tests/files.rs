@@ -85,18 +85,12 @@ fn payloads_of_gigabytes_are_not_copied() {
     let (client, daemon) = streams("n28-remotebuild-0");
     let mut said = File::create(folder.join("client.bin")).unwrap();
     said.write_all(&client[..32]).unwrap();
-    for number in [44u64, 0, 1] {
-        said.write_all(&number.to_le_bytes()).unwrap();
-    }
+    said.write_all(&numbers(&[44, 0, 1])).unwrap();
     sparse_payload(&mut said, 16);
-    for number in [38u64, 0] {
-        said.write_all(&number.to_le_bytes()).unwrap();
-    }
+    said.write_all(&numbers(&[38, 0])).unwrap();
     let mut answered = File::create(folder.join("daemon.bin")).unwrap();
     answered.write_all(&daemon[..40]).unwrap();
-    for _ in 0..2 {
-        answered.write_all(&0x616c7473u64.to_le_bytes()).unwrap();
-    }
+    answered.write_all(&numbers(&[LAST, LAST])).unwrap();
     sparse_payload(&mut answered, 16);
 
     let output =

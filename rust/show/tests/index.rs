@@ -36,9 +36,9 @@ fn index(session: &str) -> Vec<Indexed> {
     calls.collect()
 }
 
-/// What ported mode does of a call that a daemon sends otherwise.
+/// What becomes of a call that a daemon sends otherwise.
 #[derive(Debug, PartialEq, Eq, Clone, Copy)]
-enum Ported {
+enum Difference {
     /// The reply or error block is read to another end.
     Ends(usize),
     /// It is refused, by a number at a place of the daemon's stream.
@@ -50,26 +50,26 @@ enum Ported {
 }
 
 /// The sessions with such a call; docs/DIFFERENCES.md explains each.
-const DIFFERENCES: [(&str, usize, Ported); 8] = [
+const DIFFERENCES: [(&str, usize, Difference); 8] = [
     // Reply 20 is a set and two numbers, and read as three numbers: the set's count, and the length and first eight bytes of its path.
-    ("n28-delete-0", 2, Ported::Ends(328)),
+    ("n28-delete-0", 2, Difference::Ends(328)),
     // Reply 38 is a bare archive, and read as framed: its first string's length as a chunk's, its padding as part of the next length.
-    ("n28-nglog-0", 2, Ported::Refused(1, 93)),
+    ("n28-nglog-0", 2, Difference::Refused(1, 93)),
     // Error blocks from 1.26 go on with a count of traces.
-    ("n28-fail-0", 5, Ported::Ends(2736)),
-    ("tr28-trace1-0", 5, Ported::Ends(1552)),
+    ("n28-fail-0", 5, Difference::Ends(2736)),
+    ("tr28-trace1-0", 5, Difference::Ends(1552)),
     // Error blocks below 1.26 are a message and a number, and read as a type and a level.
-    ("n23-fail-0", 5, Ported::Refused(1, 2496)),
+    ("n23-fail-0", 5, Difference::Refused(1, 2496)),
     // A message that is not text.
-    ("fb28cmax-nb-0", 5, Ported::Refused(3, 2416)),
+    ("fb28cmax-nb-0", 5, Difference::Refused(3, 2416)),
     // Arguments that neither the Rust nor 01 reads.
-    ("n28-remotebuild-0", 4, Ported::Unfollowed),
+    ("n28-remotebuild-0", 4, Difference::Unfollowed),
     // Another protocol.
-    ("srv28-copyclosure-0", 1, Ported::NoHandshake(6)),
+    ("srv28-copyclosure-0", 1, Difference::NoHandshake(6)),
 ];
 
-fn difference(session: &str, call: usize) -> Option<Ported> {
-    DIFFERENCES.iter().find(|(name, index, _)| (*name, *index) == (session, call)).map(|(_, _, ported)| *ported)
+fn difference(session: &str, call: usize) -> Option<Difference> {
+    DIFFERENCES.iter().find(|(name, index, _)| (*name, *index) == (session, call)).map(|(_, _, what)| *what)
 }
 
 #[test]
@@ -80,21 +80,21 @@ fn ranges_are_those_of_the_index() {
         let mut lines = json.lines();
         let handshake = lines.next().unwrap();
         for (number, indexed) in (1..).zip(index(&session)) {
-            let ported = difference(&session, number);
-            if let Some(Ported::NoHandshake(refusal)) = ported {
+            let difference = difference(&session, number);
+            if let Some(Difference::NoHandshake(refusal)) = difference {
                 assert!(handshake
                     .starts_with(&format!("{{\"event\":\"refusal\",\"call\":null,\"op\":null,\"part\":\"handshake\",\"refusal\":{refusal},")));
                 break;
             }
             let line = lines.next().unwrap_or_else(|| panic!("{session} has no call {number}"));
             same_call(&session, number, line, &indexed);
-            match ported {
+            match difference {
                 None => same_ranges(&session, number, line, &indexed),
-                Some(Ported::Ends(end)) => {
+                Some(Difference::Ends(end)) => {
                     assert_ne!(indexed.outcome.1, end, "{session}, call {number}: no difference");
                     same_ranges(&session, number, line, &Indexed { outcome: (indexed.outcome.0, end), ..indexed });
                 }
-                Some(Ported::Refused(refusal, place)) => {
+                Some(Difference::Refused(refusal, place)) => {
                     same_arguments(&session, number, line, &indexed);
                     assert_eq!(range_after(line, "\"messages\":{\"range\":"), Some(indexed.messages), "{session}, call {number}: {line}");
                     let stop = lines.next().unwrap();
@@ -104,14 +104,14 @@ fn ranges_are_those_of_the_index() {
                     assert!((indexed.outcome.0..=indexed.outcome.1).contains(&place));
                     break;
                 }
-                Some(Ported::Unfollowed) => {
+                Some(Difference::Unfollowed) => {
                     let stop = lines.next().unwrap();
                     assert!(stop.starts_with("{\"event\":\"unfollowed\""), "{session}: {stop}");
                     assert_eq!(number_after(stop, "\"client\":"), Some(indexed.arguments.0), "{session}: {stop}");
                     assert_eq!(number_after(stop, "\"daemon\":"), Some(indexed.messages.0), "{session}: {stop}");
                     break;
                 }
-                Some(Ported::NoHandshake(_)) => (),
+                Some(Difference::NoHandshake(_)) => (),
             }
         }
     }

@@ -41,20 +41,25 @@ def on_terminal(arguments, environment=None, stdout=None):
     return run.wait(), written
 
 
-def json_parses():
-    count = 0
+def sessions_as_json():
+    """Each recorded session with its options, its exit status and its objects."""
     for session in sorted(path for path in captures.iterdir() if path.is_dir()):
         for options in (["--json"], ["--json", "--summary"]):
             run = subprocess.run([program, *options, str(session)], capture_output=True, check=False)
-            events = [json.loads(line) for line in run.stdout.splitlines()]
-            last = events[-1]["event"]
-            assert {"end": 0, "refusal": 1, "unfollowed": 3}[last] == run.returncode, (session, last, run.returncode)
-            kinds = [event["event"] for event in events[:-1]]
-            if "--summary" in options:
-                assert kinds == ["summary"], (session, kinds)
-            elif kinds:
-                assert kinds == ["handshake"] + ["call"] * (len(kinds) - 1), (session, kinds)
-            count += len(events)
+            yield session, options, run.returncode, [json.loads(line) for line in run.stdout.splitlines()]
+
+
+def json_parses():
+    count = 0
+    for session, options, status, events in sessions_as_json():
+        last = events[-1]["event"]
+        assert {"end": 0, "refusal": 1, "unfollowed": 3}[last] == status, (session, last, status)
+        kinds = [event["event"] for event in events[:-1]]
+        if "--summary" in options:
+            assert kinds == ["summary"], (session, kinds)
+        elif kinds:
+            assert kinds == ["handshake"] + ["call"] * (len(kinds) - 1), (session, kinds)
+        count += len(events)
     return f"{count} lines of JSON parse"
 
 
@@ -110,12 +115,7 @@ def names_in(value):
 
 def names_are_documented():
     document = (Path(__file__).parents[3] / "docs/SHOW.md").read_text(encoding="utf-8")
-    names = set()
-    for session in sorted(path for path in captures.iterdir() if path.is_dir()):
-        for options in (["--json"], ["--json", "--summary"]):
-            run = subprocess.run([program, *options, str(session)], capture_output=True, check=False)
-            for line in run.stdout.splitlines():
-                names.update(names_in(json.loads(line)))
+    names = {name for *_, events in sessions_as_json() for name in names_in(events)}
     missing = sorted(name for name in names if f"`{name}`" not in document)
     assert not missing, missing
     return f"docs/SHOW.md has all of {len(names)} names"
