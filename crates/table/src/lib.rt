@@ -1,5 +1,6 @@
 // What a layout's table holds: the types of a field, a run of fields and the row of an operation, and the numbers that they are told by. The packed tables
 // themselves are definitions here; `fields`, `field_runs` and `operations` have them as code.
+
 // A field: its kind (0 ends a run), what becomes of its strings, where its number goes, and whether a version decides that it is there, and which.
 pub struct Field {
     pub kind: u8,

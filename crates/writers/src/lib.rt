@@ -69,7 +69,6 @@ pub fn write_string(out: &mut [u8], c: &[u8]) -> Written
     }
 }
 
-// ---- framed data
 // Eight bytes before each chunk, and the zero at the end.
 fn framed_length(n: usize) -> usize
     requires { ⌜ n < 9223372036854775808 ⌝ }
