@@ -23,6 +23,8 @@
  *     20-22  three counts, 0 to 2
  *     23, 24 0, kept for later
  *
+ * Numbers and counts that a kind does not have, or a version lacks, are 0; a flag is 0 or 1.
+ *
  * A refusal leaves all but the first three 0, and entries and payload as they were. A success writes the entries and the payload that it reports and
  * leaves what lies beyond as it was. Bytes of the block beyond 200 stay. A block shorter than 200 bytes: the call returns 10, and nothing at all is
  * written.
@@ -79,9 +81,7 @@ extern "C" {
  *     16 RegisterDrvOutput            value
  *     17 QueryRealisation             value
  *     18 QuerySubstitutablePathInfo   path
- *     19 QuerySubstitutablePathInfos  paths                                                     paths
- *
- * A number that the version lacks is 0, and a flag 0 or 1. */
+ *     19 QuerySubstitutablePathInfos  paths                                                     paths */
 uint64_t lintelow_read_op_args(uint64_t op, uint16_t major, uint8_t minor, const uint8_t *s, size_t s_len, uint8_t *entries, size_t entries_len,
                                uint8_t *payload, size_t payload_len, uint8_t *block, size_t block_len);
 

@@ -57,7 +57,7 @@ impl fmt::Debug for Entries<'_> {
     }
 }
 
-/// A success. Slots that the kind does not have are 0; docs/DECISIONS.md lists kinds and slots.
+/// A success; include/lintelow.h lists kinds, numbers and counts.
 #[derive(Debug, Clone, Copy, PartialEq, Eq)]
 pub struct Answer<'r> {
     pub kind: u64,
