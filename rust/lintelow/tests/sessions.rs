@@ -4,7 +4,7 @@ use std::fs;
 use std::path::Path;
 
 fn streams(name: &str) -> (Vec<u8>, Vec<u8>) {
-    let folder = Path::new(env!("CARGO_MANIFEST_DIR")).join(name);
+    let folder = Path::new(env!("CARGO_MANIFEST_DIR")).join("../../captures").join(name);
     let read = |file| fs::read(folder.join(file)).unwrap();
     (read("client.bin"), read("daemon.bin"))
 }
@@ -35,7 +35,7 @@ fn converse(client: &[u8], daemon: &[u8]) -> (HandshakeInfo, Vec<(Option<OpCall>
 
 #[test]
 fn a_build_by_nix_2_26() {
-    let (client, daemon) = streams("../../captures/n226-nbuild-0");
+    let (client, daemon) = streams("n226-nbuild-0");
     let (info, calls) = converse(&client, &daemon);
     assert_eq!(info.negotiated_version, Version::new(1, 38));
     assert_eq!(info.daemon_nix_version.as_deref(), Some("2.26.3"));
@@ -63,21 +63,21 @@ fn a_build_by_nix_2_26() {
 
 #[test]
 fn path_infos_by_nix_2_8() {
-    let (client, daemon) = streams("tests/sessions/nix-2.8-path-info");
+    let (client, daemon) = streams("n28-nsign-0");
     let (info, calls) = converse(&client, &daemon);
     assert_eq!((info.negotiated_version, info.trust_status), (Version::new(1, 34), None));
 
     let (Some(OpCall::SinglePath { op: 26, path }), ResultData::PathInfo(info)) = &calls[3] else { panic!("{:?}", calls[3]) };
-    assert_eq!(path, "/nix/store/pczmyy74v7nix6zir6hbarllxr5swa31-dep");
+    assert_eq!(path, "/nix/store/fbgn7d2bp6zn5m870yisw5c8sx9ihmbq-trivial");
     assert!(info.valid);
-    assert_eq!(info.deriver.as_deref(), Some("/nix/store/nzc6pfb7dg2lgvwsn3lzaqh5pgafyaz1-dep.drv"));
-    assert_eq!(info.references.as_deref(), Some(&["/nix/store/fbgn7d2bp6zn5m870yisw5c8sx9ihmbq-trivial".to_string()][..]));
+    assert_eq!(info.deriver.as_deref(), Some("/nix/store/15hv9nmmgcn7il0dabpa3gmqxld60mgs-trivial.drv"));
+    assert_eq!(info.references.as_deref(), Some(&[][..]));
     assert_eq!((info.ultimate, info.ca.as_deref()), (Some(true), Some("")));
 }
 
 #[test]
 fn a_handshake_cut_anywhere_is_refused() {
-    let (client, daemon) = streams("../../captures/n226-nbuild-0");
+    let (client, daemon) = streams("n226-nbuild-0");
     let (info, client_end, daemon_end) = parse_handshake(&client, &daemon).unwrap();
     for length in 0..daemon_end {
         let refusal = parse_handshake(&client, &daemon[..length]).unwrap_err();
