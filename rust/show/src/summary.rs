@@ -7,7 +7,7 @@ use crate::View;
 use std::collections::BTreeMap;
 use std::io::{self, Write};
 
-#[derive(Debug, Clone, Copy, Default)]
+#[derive(Default)]
 struct Counts {
     calls: u64,
     errors: u64,
@@ -34,17 +34,6 @@ impl Counts {
         }
     }
 
-    fn all(operations: &BTreeMap<u64, Counts>) -> Counts {
-        operations.values().fold(Counts::default(), |all, one| Counts {
-            calls: all.calls + one.calls,
-            errors: all.errors + one.errors,
-            refused: all.refused + one.refused,
-            arguments: all.arguments + one.arguments,
-            messages: all.messages + one.messages,
-            replies: all.replies + one.replies,
-        })
-    }
-
     fn named(&self) -> [(&'static str, u64); 6] {
         [
             ("calls", self.calls),
@@ -69,11 +58,12 @@ pub struct Summary<'s, W> {
     client: &'s [u8],
     daemon: &'s [u8],
     operations: BTreeMap<u64, Counts>,
+    all: Counts,
 }
 
 impl<'s, W: Write> Summary<'s, W> {
     pub fn new(out: W, form: Form, client: &'s [u8], daemon: &'s [u8]) -> Summary<'s, W> {
-        Summary { out, form, client, daemon, operations: BTreeMap::new() }
+        Summary { out, form, client, daemon, operations: BTreeMap::new(), all: Counts::default() }
     }
 
     fn table(&mut self) -> io::Result<()> {
@@ -85,7 +75,7 @@ impl<'s, W: Write> Summary<'s, W> {
         for (op, counts) in &self.operations {
             row(&mut self.out, &op.to_string(), names::operation(*op), counts)?;
         }
-        row(&mut self.out, "", "all", &Counts::all(&self.operations))
+        row(&mut self.out, "", "all", &self.all)
     }
 
     fn object(&self) -> String {
@@ -94,7 +84,7 @@ impl<'s, W: Write> Summary<'s, W> {
         Object::new()
             .text("event", "summary")
             .raw("operations", &json::list(self.operations.iter().map(operation)))
-            .raw("all", &told(Object::new(), &Counts::all(&self.operations)).close())
+            .raw("all", &told(Object::new(), &self.all).close())
             .number("client_bytes", self.client.len() as u64)
             .number("daemon_bytes", self.daemon.len() as u64)
             .close()
@@ -112,6 +102,7 @@ impl<W: Write> View for Summary<'_, W> {
             Event::Handshake(_) => Ok(()),
             Event::Call(call) => {
                 self.operations.entry(call.op).or_default().add(call);
+                self.all.add(call);
                 Ok(())
             }
             last => match self.form {
