@@ -1,7 +1,7 @@
 //! Numbers, strings, sets and framed data, under nix-wire's names.
 //!
 //! A reader looks at a stream from a place on and answers what stands there and where that ends; strings are parts of the stream. A writer appends.
-use crate::answer::{Refusal, ENTRY};
+use crate::answer::{Answer, Refusal, ENTRY};
 use crate::raw;
 use crate::read::with_room;
 use crate::types::Version;
@@ -66,20 +66,20 @@ pub fn skip_framed(stream: &[u8], at: usize) -> Result<(u64, usize), Refusal> {
 }
 
 pub fn write_u64(out: &mut Vec<u8>, x: u64) {
-    append(out, 8, |room| Ok(raw::write_u64(room, x)?.end))
+    append(out, 8, |room| raw::write_u64(room, x))
 }
 
 pub fn write_u32(out: &mut Vec<u8>, x: u32) {
-    append(out, 4, |room| Ok(raw::write_u32(room, x)?.end))
+    append(out, 4, |room| raw::write_u32(room, x))
 }
 
 /// A string, whatever its contents.
 pub fn write_bytes(out: &mut Vec<u8>, contents: &[u8]) {
-    append(out, contents.len() + 16, |room| Ok(raw::write_bytes(room, contents)?.end))
+    append(out, contents.len() + 16, |room| raw::write_bytes(room, contents))
 }
 
 pub fn write_string(out: &mut Vec<u8>, text: &str) {
-    append(out, text.len() + 16, |room| Ok(raw::write_string(room, text.as_bytes())?.end))
+    append(out, text.len() + 16, |room| raw::write_string(room, text.as_bytes()))
 }
 
 pub fn write_string_set<T: AsRef<str>>(out: &mut Vec<u8>, texts: &[T]) {
@@ -92,26 +92,26 @@ pub fn write_string_set<T: AsRef<str>>(out: &mut Vec<u8>, texts: &[T]) {
         bytes.extend(text);
     }
     let guess = bytes.len() + entries.len() + 8;
-    append(out, guess, |room| Ok(raw::write_string_set(room, &bytes, &entries, texts.len())?.end))
+    append(out, guess, |room| raw::write_string_set(room, &bytes, &entries, texts.len()))
 }
 
 pub fn write_framed(out: &mut Vec<u8>, payload: &[u8]) {
-    append(out, payload.len() + 64, |room| Ok(raw::write_framed(room, payload)?.end))
+    append(out, payload.len() + 64, |room| raw::write_framed(room, payload))
 }
 
 /// The text of a build's mode.
 pub fn mode_text(mode: u64) -> String {
-    text(|room| Ok(raw::write_mode(room, mode)?.end))
+    text(|room| raw::write_mode(room, mode))
 }
 
 /// "N paths".
 pub fn paths_text(count: u64) -> String {
-    text(|room| Ok(raw::write_paths(room, count)?.end))
+    text(|room| raw::write_paths(room, count))
 }
 
 /// "N overrides".
 pub fn overrides_text(count: u64) -> String {
-    text(|room| Ok(raw::write_overrides(room, count)?.end))
+    text(|room| raw::write_overrides(room, count))
 }
 
 /// The bytes, if they are a store path.
@@ -132,12 +132,13 @@ pub fn version_from_wire(wire: u64) -> Version {
 }
 
 /// Writes behind what `out` has, with room as guessed, and with twice as much while that is too little.
-fn append(out: &mut Vec<u8>, guess: usize, write: impl Fn(&mut [u8]) -> Result<usize, Refusal>) {
+fn append(out: &mut Vec<u8>, guess: usize, write: impl Fn(&mut [u8]) -> Result<Answer<'_>, Refusal>) {
     let start = out.len();
     let mut room = guess;
     loop {
         out.resize(start + room, 0);
-        match write(&mut out[start..]) {
+        let written = write(&mut out[start..]).map(|answer| answer.end);
+        match written {
             Ok(length) => return out.truncate(start + length),
             Err(Refusal { number: 10, .. }) => room *= 2,
             Err(refusal) => unreachable!("a writer of text and numbers refuses by 10 alone: {refusal}"),
@@ -145,7 +146,7 @@ fn append(out: &mut Vec<u8>, guess: usize, write: impl Fn(&mut [u8]) -> Result<u
     }
 }
 
-fn text(write: impl Fn(&mut [u8]) -> Result<usize, Refusal>) -> String {
+fn text(write: impl Fn(&mut [u8]) -> Result<Answer<'_>, Refusal>) -> String {
     let mut out = Vec::new();
     append(&mut out, 32, write);
     String::from_utf8(out).expect("words and digits")

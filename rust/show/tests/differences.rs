@@ -29,27 +29,21 @@ fn answer(call: &str, stream: &[u8]) -> String {
     };
     match words[0] {
         "read_op_args" => match read_op_args(op(), version(), stream) {
-            Ok((Some(call), end)) => read(&call, end, stream),
-            Ok((None, end)) => read(&None::<()>, end, stream),
-            Err(refusal) => refused(refusal, stream),
+            Ok((Some(call), end)) => told(Ok((call, end)), stream),
+            other => told(other, stream),
         },
-        "skip_op_args" => skip_op_args(op(), version(), stream).map_or_else(|no| refused(no, stream), |(skipped, end)| read(&skipped, end, stream)),
-        "read_daemon_result" => {
-            read_daemon_result(op(), version(), stream).map_or_else(|no| refused(no, stream), |(reply, end)| read(&reply, end, stream))
-        }
-        "read_stderr_with_error" => {
-            read_stderr_with_error(stream).map_or_else(|no| refused(no, stream), |(_, info, end)| read(&info.expect("an error"), end, stream))
-        }
+        "skip_op_args" => told(skip_op_args(op(), version(), stream), stream),
+        "read_daemon_result" => told(read_daemon_result(op(), version(), stream), stream),
+        "read_stderr_with_error" => told(read_stderr_with_error(stream).map(|(_, info, end)| (info.expect("an error"), end)), stream),
         other => panic!("the table has a call {other}"),
     }
 }
 
-fn read(answer: &impl Debug, end: usize, stream: &[u8]) -> String {
-    format!("{answer:?}, end {end} of {}", stream.len())
-}
-
-fn refused(refusal: Refusal, stream: &[u8]) -> String {
-    format!("refused by {} at {} of {}", refusal.number, refusal.place, stream.len())
+fn told(answer: Result<(impl Debug, usize), Refusal>, stream: &[u8]) -> String {
+    match answer {
+        Ok((said, end)) => format!("{said:?}, end {end} of {}", stream.len()),
+        Err(refusal) => format!("refused by {} at {} of {}", refusal.number, refusal.place, stream.len()),
+    }
 }
 
 #[test]
