@@ -10,7 +10,7 @@ ghost use Rattle.layouts.specs.Calls.{peekNumber};
 ghost use Rattle.pieces.specs.Pieces.{numRead, wordAt, textRead, chunkRead, judgedRead, roleOf, stringAt};
 use number::Number;
 
-const MAX_WIRE_STRING_LEN: u64 = 268435456;
+pub const MAX_WIRE_STRING_LEN: u64 = 268435456;
 
 // Refusals: a piece needs more bytes than remain, a length above the limit, contents that are no text.
 pub const CUT_SHORT: u64 = 1;

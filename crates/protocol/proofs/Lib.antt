@@ -1,4 +1,3 @@
-pub mod Filled
 pub mod Rows
 pub mod Unique
 pub mod Demands

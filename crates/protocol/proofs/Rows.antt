@@ -15,8 +15,9 @@ use Rattle.table.specs.Table.{kindNumbered}
 use Rattle.judge.specs.declared.Answer as C
 use Rattle.judge.specs.Judged.{answerAs}
 use Rattle.protocol.specs.declared.Arguments.{Arguments}
-use Rattle.protocol.specs.Protocol.{answeredAs, argumentsAs}
-use Rattle.protocol.proofs.Filled.{answered-by, lent-by}
+use Rattle.reading.specs.Reading.{answeredAs}
+use Rattle.reading.proofs.Filled.{answered-by, lent-by}
+use Rattle.protocol.specs.Protocol.{argumentsAs}
 
 module _ (v : Version) (k : Kinds) (slots room : ℕ) (s : List ℕ) (t : Tree) where
   -- 9 before any byte

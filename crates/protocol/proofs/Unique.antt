@@ -16,8 +16,6 @@ use Rattle.protocol.proofs.read_daemon_result.Reads as read-daemon-resu
 use Rattle.protocol.proofs.read_daemon_result.Kinds as read-daemon-result-kinds
 use Rattle.protocol.proofs.skip_daemon_result.Reads as skip-daemon-result
 use Rattle.protocol.proofs.skip_daemon_result.Kinds as skip-daemon-result-kinds
-use Rattle.protocol.proofs.read_payload.Reads as read-payload
-use Rattle.protocol.proofs.read_payload.Kinds as read-payload-kinds
 
 pub read-op-args-unique : (κs : Lfts 3) (a : Dens κs read-op-args-kinds.ps) (r r′ : Answer) (x x′ : AtExit (endedOf 3 read-op-args-kinds.ps read-op-args-kinds.r) κs)
     → read-op-args.Post κs a r x → read-op-args.Post κs a r′ x′ → (r ≡ r′) × (now (x .1 .1 .1 .1 .0) ≡ now (x′ .1 .1 .1 .1 .0)) × (now (x .1 .1 .1 .1 .1 .0) ≡ now (x′ .1 .1 .1 .1 .1 .0))
@@ -34,7 +32,3 @@ read-daemon-result-unique κs a r r′ x x′ p q = (p .0 ∙ sym (q .0), p .1 .
 pub skip-daemon-result-unique : (κs : Lfts 1) (a : Dens κs skip-daemon-result-kinds.ps) (r r′ : Skipped) (x x′ : AtExit (endedOf 1 skip-daemon-result-kinds.ps skip-daemon-result-kinds.r) κs)
     → skip-daemon-result.Post κs a r x → skip-daemon-result.Post κs a r′ x′ → r ≡ r′
 skip-daemon-result-unique κs a r r′ x x′ p q = skipped-told r r′ (p ∙ sym q)
-
-pub read-payload-unique : (κs : Lfts 2) (a : Dens κs read-payload-kinds.ps) (r r′ : Answer) (x x′ : AtExit (endedOf 2 read-payload-kinds.ps read-payload-kinds.r) κs)
-    → read-payload.Post κs a r x → read-payload.Post κs a r′ x′ → (r ≡ r′) × (now (x .1 .1 .1 .1 .1 .1 .0) ≡ now (x′ .1 .1 .1 .1 .1 .1 .0))
-read-payload-unique κs a r r′ x x′ p q = (p .0 ∙ sym (q .0), p .1 ∙ sym (q .1))

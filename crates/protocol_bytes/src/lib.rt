@@ -7,7 +7,7 @@ ghost use Rattle.layouts.specs.Calls.{argumentsTree, replyTree, payloadAfter};
 ghost use Rattle.walk.specs.Walk.{layoutPieces};
 ghost use Rattle.output.specs.Numbers.{bytesOf};
 ghost use Rattle.judge.specs.Judged.{answerAs};
-ghost use Rattle.protocol.specs.Protocol.{answeredAs, fronted, Reported};
+ghost use Rattle.reading.specs.Reading.{answeredAs, fronted, Reported};
 ghost use Rattle.protocol_bytes.specs.Bytes.{argumentsRead, replyRead, runRead, bytesAfter};
 use judge::Answer;
 use judge::Outcome;
@@ -39,7 +39,7 @@ fn read(
     ensures payload { λ r. ⌜ now (payload .exit) ≡ lentAfter (runRead (version major minor) run (now (s .entry)) (now (entries .entry)) (now (payload .entry))) (payloadOf (now (s .entry)) (layoutPieces (version major minor) run (now (s .entry)) 0)) (now (payload .entry)) ⌝ }
 {
     let slots = entries.len() / 16;
-    let a = protocol::read_payload(s, major, minor, run, code, slots, payload);
+    let a = reading::read_payload(s, major, minor, run, code, slots, payload);
     let found = a.found;
     let o = a.outcome;
     let Outcome::Fine = o else {

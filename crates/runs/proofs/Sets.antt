@@ -2,16 +2,17 @@
 use Prim.Native.Nat.{ℕ, zero, suc, _+_, _-_, _/_, _≤_, _<_}
 use mathlib.Core.Path.{_≡_, refl, sym, _∙_, ap}
 use mathlib.Core.List.{List, [], _∷_}
-use mathlib.Core.Bool.{Bool, true, false, _&&_}
+use mathlib.Core.Bool.{Bool, true, false}
 use lib.ListN.{length}
 use lib.Seq.{sets}
 use lib.Dec.{leb}
 use native.Mathlib.Omega.{arith}
+use borrow.Author.Tests.{le-leb, lt-leb}
 use Rattle.layouts.specs.declared.Record.{Record}
 use Rattle.layouts.specs.Primitive.{pick, numberAt, noEntryRoom, Result, ok, refused, onward}
-use Rattle.layouts.specs.Shape.{Role, passed, kept, Tree, say, stop, strings, units}
+use Rattle.layouts.specs.Shape.{kept, Tree, say, stop, strings, units}
 use Rattle.layouts.specs.Pieces.{Text, textOf, afterText, run}
-use Rattle.layouts.specs.Record.{blank, withEntries, isKept, entered}
+use Rattle.layouts.specs.Record.{blank, withEntries, entered}
 use Rattle.layouts.specs.Judge.{notText, textTaken, halfTaken, Ended, judgeOf, entriesOf, lentAfter}
 use Rattle.layouts.proofs.Views.{TextView, no-length, too-long, no-contents, no-padding, is-whole, text-view}
 use Rattle.layouts.proofs.Judge.{judge-read, entries-length}
@@ -19,7 +20,7 @@ use Rattle.pieces.specs.declared.Judged.{Judged}
 use Rattle.pieces.specs.declared.Judged.the-variants as J
 use Rattle.pieces.specs.declared.Text as T
 use Rattle.pieces.specs.declared.Text.the-variants.{Whole, Half, Bad}
-use Rattle.pieces.specs.Pieces.{Span, textRead, judgedRead, roleOf, spanOf, stringAt}
+use Rattle.pieces.specs.Pieces.{Span, textRead, judgedRead, spanOf, stringAt}
 use Rattle.pieces.proofs.Numbers.{as-told}
 use Rattle.runs.specs.declared.Passed.{Passed}
 use Rattle.runs.specs.declared.Passed.the-variants as P
@@ -27,58 +28,56 @@ use Rattle.runs.specs.Runs.{passedTo, stringsAt, setFrom, fronted}
 use Rattle.runs.proofs.Filling.{Filling, filling-room, filling-put, filling-end, lent-kept, lent-fronted}
 
 -- ---- each way through the loop that judges, at string i
-module _ (s : List ℕ) (d : Bool) (slots count : ℕ) where
-  pub strings-all : (at : ℕ) → stringsAt s d slots 0 (count - 0) at ≡ stringsAt s d slots 0 count at
-  strings-all at = ap (λ (n : ℕ). stringsAt s d slots 0 n at) (omega arith)
+module _ (s : List ℕ) (slots count : ℕ) where
+  pub strings-all : (at : ℕ) → stringsAt s slots 0 (count - 0) at ≡ stringsAt s slots 0 count at
+  strings-all at = ap (λ (n : ℕ). stringsAt s slots 0 n at) (omega arith)
 
-  module _ (i at : ℕ) (x : Result ℕ) (v : stringsAt s d slots i (count - i) at ≡ x) where
+  module _ (i at : ℕ) (x : Result ℕ) (v : stringsAt s slots i (count - i) at ≡ x) where
     pub strings-end : count ≤ i → ok at ≡ x
     unfolding stringsAt
-    strings-end h = let k : 0 ≡ count - i = omega arith in ap (λ (n : ℕ). stringsAt s d slots i n at) k ∙ v
+    strings-end h = let k : 0 ≡ count - i = omega arith in ap (λ (n : ℕ). stringsAt s slots i n at) k ∙ v
 
-    module _ (h : i < count) (r : Judged) (e : judgedRead r ≡ stringAt s d at) where
+    module _ (h : i < count) (r : Judged) (e : judgedRead r ≡ stringAt s true at) where
       strings-on : (r' : Judged) → r ≡ r'
-          → onward (judgedRead r') (λ p. pick (d && leb slots i) (refused noEntryRoom at 0) (stringsAt s d slots (i + 1) (count - (i + 1)) (p .ends))) ≡ x
+          → onward (judgedRead r') (λ p. pick (leb slots i) (refused noEntryRoom at 0) (stringsAt s slots (i + 1) (count - (i + 1)) (p .ends))) ≡ x
       unfolding stringsAt
       strings-on r' q =
           let k : suc (count - (i + 1)) ≡ count - i = omega arith in
-          rw (as-told judgedRead q e) (ap (λ (n : ℕ). stringsAt s d slots i n at) k ∙ v)
+          rw (as-told judgedRead q e) (ap (λ (n : ℕ). stringsAt s slots i n at) k ∙ v)
 
       pub strings-fault : (which place : ℕ) → r ≡ J.Refused which place → refused which place 0 ≡ x
       strings-fault which place q = strings-on (J.Refused which place) q
 
       module _ (start len next : ℕ) (q : r ≡ J.Fine start len next) where
-        pub strings-full : (d && leb slots i) ≡ true → refused 4 at 0 ≡ x
-        strings-full f = rw f at (strings-on (J.Fine start len next) q)
+        pub strings-full : slots ≤ i → refused 4 at 0 ≡ x
+        strings-full f = rw (le-leb slots i f) at (strings-on (J.Fine start len next) q)
 
-        pub strings-next : (d && leb slots i) ≡ false → stringsAt s d slots (i + 1) (count - (i + 1)) next ≡ x
-        strings-next f = rw f at (strings-on (J.Fine start len next) q)
+        pub strings-next : i < slots → stringsAt s slots (i + 1) (count - (i + 1)) next ≡ x
+        strings-next f = rw (lt-leb slots i f) at (strings-on (J.Fine start len next) q)
 
 -- ---- the record that they make
 module _ (s : List ℕ) (slots : ℕ) where
   abbrev Judge : Record → (Unit {0} → Tree) → ℕ → Result Ended
   Judge x k at = judgeOf s slots 0 x (run (k tt) s at)
 
-  say-by : (m : Role) (x : Record) (k : Unit {0} → Tree) (at : ℕ) (b c : Bool) {t : Text} → TextView (length s) (numberAt s at) at t
-      → notText s m (at + 8) (numberAt s at) ≡ b → (isKept m && leb slots (x .entries)) ≡ c
-      → judgeOf s slots 0 x (afterText t m (λ a. run (k tt) s a)) ≡ onward (spanOf s m t) (λ p. pick c (refused noEntryRoom at 0) (Judge (entered x m) k (p .ends)))
+  say-by : (x : Record) (k : Unit {0} → Tree) (at : ℕ) (b c : Bool) {t : Text} → TextView (length s) (numberAt s at) at t
+      → notText s kept (at + 8) (numberAt s at) ≡ b → leb slots (x .entries) ≡ c
+      → judgeOf s slots 0 x (afterText t kept (λ a. run (k tt) s a)) ≡ onward (spanOf s kept t) (λ p. pick c (refused noEntryRoom at 0) (Judge (entered x kept) k (p .ends)))
   unfolding spanOf halfTaken textTaken afterText judgeOf
-  say-by m x k at b c (no-length h) e f = refl
-  say-by m x k at b c (too-long h l) e f = refl
-  say-by m x k at b c (no-contents h l g) e f = refl
-  say-by m x k at true c (no-padding h l g) e f = rw e
-  say-by m x k at false c (no-padding h l g) e f = rw e
-  say-by m x k at true c (is-whole h l) e f = rw e
-  say-by m x k at false true (is-whole h l) e f = rw (e, f) (ap (λ (p : ℕ). refused noEntryRoom p 0) (omega arith))
-  say-by m x k at false false (is-whole h l) e f = rw (e, f)
+  say-by x k at b c (no-length h) e f = refl
+  say-by x k at b c (too-long h l) e f = refl
+  say-by x k at b c (no-contents h l g) e f = refl
+  say-by x k at true c (no-padding h l g) e f = rw e
+  say-by x k at false c (no-padding h l g) e f = rw e
+  say-by x k at true c (is-whole h l) e f = rw e
+  say-by x k at false true (is-whole h l) e f = rw (e, f) (ap (λ (p : ℕ). refused noEntryRoom p 0) (omega arith))
+  say-by x k at false false (is-whole h l) e f = rw (e, f)
 
-  judge-say : (d : Bool) (x : Record) (k : Unit {0} → Tree) (at : ℕ)
-      → judgeOf s slots 0 x (run (say (roleOf d) k) s at)
-      ≡ onward (stringAt s d at) (λ p. pick (isKept (roleOf d) && leb slots (x .entries)) (refused noEntryRoom at 0) (Judge (entered x (roleOf d)) k (p .ends)))
+  judge-say : (x : Record) (k : Unit {0} → Tree) (at : ℕ) → judgeOf s slots 0 x (run (say kept k) s at)
+      ≡ onward (stringAt s true at) (λ p. pick (leb slots (x .entries)) (refused noEntryRoom at 0) (Judge (entered x kept) k (p .ends)))
   unfolding run stringAt
-  judge-say d x k at =
-      let m = roleOf d in
-      say-by m x k at (notText s m (at + 8) (numberAt s at)) (isKept m && leb slots (x .entries)) (text-view (length s) (numberAt s at) at) refl refl
+  judge-say x k at =
+      say-by x k at (notText s kept (at + 8) (numberAt s at)) (leb slots (x .entries)) (text-view (length s) (numberAt s at) at) refl refl
 
   -- two ways to go on, where the second adds the record
   go-on : (o : Result Span) (c : Bool) (at : ℕ) (f : Span → Result Ended) (g : Span → Result ℕ) (r : Record)
@@ -90,22 +89,14 @@ module _ (s : List ℕ) (slots : ℕ) where
   go-on (ok p) false at f g r h = h p
 
   pub judge-kept : (n at : ℕ) (x : Record)
-      → judgeOf s slots 0 x (setFrom s n at) ≡ onward (stringsAt s true slots (x .entries) n at) (λ e. ok (record { found = withEntries x (x .entries + n); ends = e }))
+      → judgeOf s slots 0 x (setFrom s n at) ≡ onward (stringsAt s slots (x .entries) n at) (λ e. ok (record { found = withEntries x (x .entries + n); ends = e }))
   unfolding units strings stringsAt run judgeOf entered
   judge-kept zero at x = ap (λ (i : ℕ). ok (record { found = withEntries x i; ends = at })) (omega arith)
   judge-kept (suc n) at x =
-      judge-say true x (λ u. units kept 0 n (λ v. stop)) at
-      ∙ go-on (stringAt s true at) (leb slots (x .entries)) at _ (λ p. stringsAt s true slots (x .entries + 1) n (p .ends)) (withEntries x (x .entries + suc n))
+      judge-say x (λ u. units kept 0 n (λ v. stop)) at
+      ∙ go-on (stringAt s true at) (leb slots (x .entries)) at _ (λ p. stringsAt s slots (x .entries + 1) n (p .ends)) (withEntries x (x .entries + suc n))
       (λ p. judge-kept n (p .ends) (entered x kept)
-      ∙ ap (λ (i : ℕ). onward (stringsAt s true slots (x .entries + 1) n (p .ends)) (λ e. ok (record { found = withEntries x i; ends = e }))) (omega arith))
-
-  pub judge-passed : (n i at : ℕ) (x : Record)
-      → judgeOf s slots 0 x (run (units passed 0 n (λ u. stop)) s at) ≡ onward (stringsAt s false slots i n at) (λ e. ok (record { found = x; ends = e }))
-  unfolding units strings stringsAt run judgeOf entered
-  judge-passed zero i at x = refl
-  judge-passed (suc n) i at x =
-      judge-say false x (λ u. units passed 0 n (λ v. stop)) at
-      ∙ go-on (stringAt s false at) false at _ (λ p. stringsAt s false slots (i + 1) n (p .ends)) x (λ p. judge-passed n (i + 1) (p .ends) x)
+      ∙ ap (λ (i : ℕ). onward (stringsAt s slots (x .entries + 1) n (p .ends)) (λ e. ok (record { found = withEntries x i; ends = e }))) (omega arith))
 
 -- ---- each way through the loop that fills, at string i
 module _ (s : List ℕ) (count i at : ℕ) (lent es₀ out : List ℕ) (n : ℕ) (v : Filling lent es₀ out n (entriesOf (setFrom s (count - i) at))) where
@@ -144,9 +135,9 @@ pub entries-all : (s : List ℕ) (n at : ℕ) → entriesOf (setFrom s (n - 0) a
 entries-all s n at = ap (λ (k : ℕ). entriesOf (setFrom s k at)) (omega arith)
 
 -- ---- judged, then filled in
-module _ (s : List ℕ) (n at : ℕ) (lent : List ℕ) (r : Passed) (e : passedTo r ≡ stringsAt s true (length lent / 2) 0 n at) where
+module _ (s : List ℕ) (n at : ℕ) (lent : List ℕ) (r : Passed) (e : passedTo r ≡ stringsAt s (length lent / 2) 0 n at) where
   abbrev answer : Result ℕ
-  answer = stringsAt s true (length lent / 2) 0 n at
+  answer = stringsAt s (length lent / 2) 0 n at
 
   abbrev entries : List ℕ
   entries = entriesOf (setFrom s n at)

@@ -13,8 +13,6 @@ use Rattle.runs.specs.declared.Passed.{Passed}
 use Rattle.runs.specs.declared.Passed.the-variants as P
 use Rattle.runs.specs.declared.Total.{Total}
 use Rattle.runs.specs.declared.Total.the-variants as T
-use Rattle.runs.proofs.strings_at.Reads as strings-at
-use Rattle.runs.proofs.strings_at.Kinds as strings-at-kinds
 use Rattle.runs.proofs.frames_at.Reads as frames-at
 use Rattle.runs.proofs.frames_at.Kinds as frames-at-kinds
 use Rattle.runs.proofs.read_strings.Reads as read-strings
@@ -45,10 +43,6 @@ total-told : {b : Result Ended} (r r′ : Total) → totalOf r ≡ b → totalOf
 total-told = told totalOf totalFrom total-back
 
 -- ---- the functions
-pub strings-at-unique : (κs : Lfts 1) (a : Dens κs strings-at-kinds.ps) (r r′ : Passed) (x x′ : AtExit (endedOf 1 strings-at-kinds.ps strings-at-kinds.r) κs)
-    → strings-at.Post κs a r x → strings-at.Post κs a r′ x′ → r ≡ r′
-strings-at-unique κs a r r′ x x′ p q = passed-told r r′ p q
-
 pub frames-at-unique : (κs : Lfts 1) (a : Dens κs frames-at-kinds.ps) (r r′ : Total) (x x′ : AtExit (endedOf 1 frames-at-kinds.ps frames-at-kinds.r) κs)
     → frames-at.Post κs a r x → frames-at.Post κs a r′ x′ → r ≡ r′
 frames-at-unique κs a r r′ x x′ p q = total-told r r′ p q

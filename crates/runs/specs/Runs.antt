@@ -1,7 +1,7 @@
 -- What the loops over strings and chunks make of them, one piece at a time, and what their answers mean.
 use Prim.Native.Nat.{ℕ, zero, suc, _+_}
 use mathlib.Core.List.{List, _++_}
-use mathlib.Core.Bool.{Bool, _&&_}
+use mathlib.Core.Bool.{true}
 use lib.ListN.{length, drop}
 use lib.Dec.{leb}
 use Rattle.layouts.specs.Primitive.{pick, noEntryRoom, Result, ok, refused, onward}
@@ -25,10 +25,9 @@ totalOf (T.Bytes total next) = ok (record { found = withPayload blank total; end
 totalOf (T.Refused which place) = refused which place 0
 
 -- n strings of which i were before, and the place after them: 4 at the length of a string that has no slot
-unfoldable pub stringsAt : List ℕ → (decoded : Bool) → (slots i n at : ℕ) → Result ℕ
-stringsAt s decoded slots i zero at = ok at
-stringsAt s decoded slots i (suc n) at =
-    onward (stringAt s decoded at) (λ p. pick (decoded && leb slots i) (refused noEntryRoom at 0) (stringsAt s decoded slots (i + 1) n (p .ends)))
+unfoldable pub stringsAt : List ℕ → (slots i n at : ℕ) → Result ℕ
+stringsAt s slots i zero at = ok at
+stringsAt s slots i (suc n) at = onward (stringAt s true at) (λ p. pick (leb slots i) (refused noEntryRoom at 0) (stringsAt s slots (i + 1) n (p .ends)))
 
 -- what is left of a set with n strings to come, and of frames
 abbrev pub setFrom : List ℕ → (n at : ℕ) → Pieces

@@ -2,7 +2,6 @@
 // lent memory, and filling looks at no text and no room.
 ghost use mathlib.Core.Path.{_≡_};
 ghost use mathlib.Core.List.{[], _∷_};
-ghost use mathlib.Core.Bool.{true};
 ghost use Prim.Native.Nat.{_+_, _/_, _≤_};
 ghost use lib.ListN.{length, take, drop};
 ghost use lib.Seq.{sets};
@@ -32,14 +31,14 @@ pub enum Total {
     Refused { which: u64, place: usize },
 }
 
-// So many strings, judged one by one up to the first fault: a count that the stream cannot hold costs no time.
-pub fn strings_at(s: &[u8], from: usize, count: u64, decoded: bool, slots: u64) -> Passed
-    ensures { λ r. ⌜ passedTo r ≡ stringsAt (now (s .entry)) decoded slots 0 count from ⌝ }
+// So many strings that are text, judged one by one up to the first fault: a count that the stream cannot hold costs no time.
+fn strings_at(s: &[u8], from: usize, count: u64, slots: u64) -> Passed
+    ensures { λ r. ⌜ passedTo r ≡ stringsAt (now (s .entry)) slots 0 count from ⌝ }
 {
     let mut at = from;
     let mut done: u64 = 0;
     while done < count {
-        match pieces::string_at(s, at, decoded) {
+        match pieces::string_at(s, at, true) {
             Judged::Refused { which, place } => {
                 return Passed::Refused { which, place };
             }
@@ -48,7 +47,7 @@ pub fn strings_at(s: &[u8], from: usize, count: u64, decoded: bool, slots: u64) 
                 len: _,
                 next,
             } => {
-                if decoded & (slots <= done) {
+                if slots <= done {
                     return Passed::Refused {
                         which: NO_ENTRY_ROOM,
                         place: at,
@@ -166,11 +165,11 @@ fn join_frames(s: &[u8], from: usize, out: &mut [u8])
 
 // So many strings that are text, with start and length of each in the room.
 pub fn read_strings(s: &[u8], from: usize, count: u64, entries: &mut [u64]) -> Passed
-    ensures answer { λ r. ⌜ passedTo r ≡ stringsAt (now (s .entry)) true (length (now (entries .entry)) / 2) 0 count from ⌝ }
-    ensures room { λ r. ⌜ now (entries .exit) ≡ lentAfter (stringsAt (now (s .entry)) true (length (now (entries .entry)) / 2) 0 count from) (entriesOf (setFrom (now (s .entry)) count from)) (now (entries .entry)) ⌝ }
+    ensures answer { λ r. ⌜ passedTo r ≡ stringsAt (now (s .entry)) (length (now (entries .entry)) / 2) 0 count from ⌝ }
+    ensures room { λ r. ⌜ now (entries .exit) ≡ lentAfter (stringsAt (now (s .entry)) (length (now (entries .entry)) / 2) 0 count from) (entriesOf (setFrom (now (s .entry)) count from)) (now (entries .entry)) ⌝ }
 {
     let slots = (entries.len() / 2) as u64;
-    match strings_at(s, from, count, true, slots) {
+    match strings_at(s, from, count, slots) {
         Passed::Refused { which, place } => Passed::Refused { which, place },
         Passed::Past(next) => {
             fill_entries(s, from, count, entries);

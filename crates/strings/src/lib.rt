@@ -5,10 +5,14 @@ ghost use Prim.Native.Nat.{_≤_};
 ghost use lib.ListN.{length};
 ghost use Rattle.layouts.specs.Shape.{Role, Tree, strings, units};
 ghost use Rattle.layouts.specs.Pieces.{run, skipOf};
-ghost use Rattle.strings.specs.Strings.{row, rowAfter, passedOr, PastFrom};
+ghost use Rattle.strings.specs.Strings.{row, rowAfter, passedOr, PastFrom, Expected};
+use number::Number;
 use pieces::Text;
 
 const CUT_SHORT: u64 = 1;
+
+// From here on a length is seldom in the first-level cache when its turn comes.
+const LONG: usize = 256;
 
 // Where the row ends, or its first refusal.
 pub enum Passed {
@@ -40,6 +44,27 @@ pub fn after_next(pend: u64, extra: u64, left: u64) -> More
     More::None
 }
 
+// A long string, as long as the last one: then the place after it waits for no load. Short ones differ in length, and a wrong guess costs more than a load.
+fn is_expected(s: &[u8], at: usize, expected: usize) -> bool
+    ensures { λ r. ⌜ Expected (now (s .entry)) at expected r ⌝ }
+{
+    if expected < LONG {
+        return false;
+    }
+    match pieces::number_at(s, at) {
+        Number::Short => false,
+        Number::Value(n) => {
+            if n != expected as u64 {
+                return false;
+            }
+            if pieces::MAX_WIRE_STRING_LEN < n {
+                return false;
+            }
+            8 + expected + pieces::padding(expected) <= s.len() - at
+        }
+    }
+}
+
 // No contents are looked at.
 pub fn pass(s: &[u8], from: usize, pend: u64, extra: u64, left: u64) -> Passed
     ensures law { λ r. ⌜ ((m : Role) (k : Unit {0} → Tree) → skipOf (run (row m pend extra left k) (now (s .entry)) from) ≡ passedOr r (λ at. skipOf (run (k tt) (now (s .entry)) at))) ⌝ }
@@ -48,6 +73,7 @@ pub fn pass(s: &[u8], from: usize, pend: u64, extra: u64, left: u64) -> Passed
     let mut at = from;
     let mut p = pend;
     let mut l = left;
+    let mut expected: usize = 0;
     loop {
         let m = after_next(p, extra, l);
         match m {
@@ -55,25 +81,32 @@ pub fn pass(s: &[u8], from: usize, pend: u64, extra: u64, left: u64) -> Passed
                 return Passed::Past(at);
             }
             More::String { pend, left } => {
-                let t = pieces::text_at(s, at);
-                match t {
-                    Text::Bad { which, place } => {
-                        return Passed::Refused { which, place };
-                    }
-                    Text::Half { start, len } => {
-                        return Passed::Refused {
-                            which: CUT_SHORT,
-                            place: start + len,
-                        };
-                    }
-                    Text::Whole {
-                        start: _,
-                        len: _,
-                        next,
-                    } => {
-                        at = next;
-                        p = pend;
-                        l = left;
+                if is_expected(s, at, expected) {
+                    at = at + 8 + expected + pieces::padding(expected);
+                    p = pend;
+                    l = left;
+                } else {
+                    let t = pieces::text_at(s, at);
+                    match t {
+                        Text::Bad { which, place } => {
+                            return Passed::Refused { which, place };
+                        }
+                        Text::Half { start, len } => {
+                            return Passed::Refused {
+                                which: CUT_SHORT,
+                                place: start + len,
+                            };
+                        }
+                        Text::Whole {
+                            start: _,
+                            len,
+                            next,
+                        } => {
+                            at = next;
+                            p = pend;
+                            l = left;
+                            expected = len;
+                        }
                     }
                 }
             }

@@ -1,17 +1,18 @@
 -- What is read of the field of a set: the count was found, and so many strings were passed.
-use Prim.Native.Nat.{ℕ, _+_, _/_}
+use Prim.Native.Nat.{ℕ, zero, suc, _+_, _/_}
 use mathlib.Core.Path.{_≡_, refl, sym, _∙_, ap}
 use mathlib.Core.List.{List}
-use mathlib.Core.Bool.{true, false}
 use lib.ListN.{length}
 use native.Mathlib.Omega.{arith}
 use Rattle.layouts.specs.Primitive.{numberAt, Result, ok, refused, onward}
-use Rattle.layouts.specs.Shape.{asNumber, asCount, passed, kept, set, stop, units}
-use Rattle.layouts.specs.Pieces.{run}
-use Rattle.layouts.specs.Record.{blank, withNumber, withCount, withEntries, noted}
-use Rattle.layouts.specs.Judge.{Ended, judgeOf, entriesOf, lentAfter}
+use Rattle.layouts.specs.declared.Record.{Record}
+use Rattle.layouts.specs.Shape.{asNumber, asCount, Role, passed, kept, set, Tree, stop, strings, units}
+use Rattle.layouts.specs.Pieces.{Pieces, Text, afterText, run, skipOf}
+use Rattle.layouts.specs.Record.{blank, withNumber, withCount, withEntries, noted, entered}
+use Rattle.layouts.specs.Judge.{Ended, judgeOf, notText, textTaken, halfTaken, entriesOf, lentAfter}
 use Rattle.layouts.specs.Calls.{field, peekNumber, readStringSet, skipStringSet}
 use Rattle.layouts.proofs.Steps.{ask-short, ask-value}
+use Rattle.layouts.proofs.Views.{TextView, no-length, too-long, no-contents, no-padding, is-whole, text-view}
 use Rattle.number.specs.declared.Number.{Number}
 use Rattle.number.specs.declared.Number.the-variants.{Value, Short}
 use Rattle.pieces.specs.Pieces.{numRead}
@@ -20,8 +21,11 @@ use Rattle.pieces.proofs.Numbers.{as-told, number-known, number-short}
 use Rattle.runs.specs.declared.Passed.{Passed}
 use Rattle.runs.specs.declared.Passed.the-variants as P
 use Rattle.runs.specs.Runs.{passedTo, stringsAt, setFrom}
-use Rattle.runs.proofs.Sets.{judge-kept, judge-passed}
+use Rattle.runs.proofs.Sets.{judge-kept}
 use Rattle.runs.proofs.Filling.{lent-kept}
+use Rattle.strings.specs.declared.Passed as R
+use Rattle.strings.specs.declared.Passed.the-variants as R'
+use Rattle.strings.specs.Strings.{row, passedOr}
 
 module _ (s : List ℕ) (at : ℕ) (r : Number) (e : numRead r ≡ peekNumber s at) where
   module _ (q : r ≡ Short) where
@@ -36,32 +40,18 @@ module _ (s : List ℕ) (at : ℕ) (r : Number) (e : numRead r ≡ peekNumber s 
         (t, lent-kept _ new lent 1 at t)
 
   module _ (n : ℕ) (q : r ≡ Value n) (o : Passed) where
-    module _ (f : passedTo o ≡ stringsAt s false 0 0 n (at + 8)) where
-      skip-set-as : (o' : Passed) → o ≡ o' → onward (passedTo o') (λ p. ok (record { found = withNumber blank 0 n; ends = p })) ≡ skipStringSet s at
-      unfolding judgeOf noted
-      skip-set-as o' g =
-          let k = number-known s at r e n q in
-          rw (as-told passedTo g f, field-set passed (asNumber 0), ask-value s at n (k .1) (asNumber 0) (λ v. units passed 0 v (λ u. stop)) (k .0))
-          (sym (judge-passed s 0 n 0 (at + 8) (withNumber blank 0 n)))
-
-      pub skip-set-past : (next : ℕ) → o ≡ P.Past next → ok (record { found = withNumber blank 0 n; ends = next }) ≡ skipStringSet s at
-      skip-set-past next g = skip-set-as (P.Past next) g
-
-      pub skip-set-refused : (which place : ℕ) → o ≡ P.Refused which place → refused which place 0 ≡ skipStringSet s at
-      skip-set-refused which place g = skip-set-as (P.Refused which place) g
-
-    module _ (lent : List ℕ) (f : passedTo o ≡ stringsAt s true (length lent / 2) 0 n (at + 8)) (out : List ℕ)
-        (h : out ≡ lentAfter (stringsAt s true (length lent / 2) 0 n (at + 8)) (entriesOf (setFrom s n (at + 8))) lent) where
+    module _ (lent : List ℕ) (f : passedTo o ≡ stringsAt s (length lent / 2) 0 n (at + 8)) (out : List ℕ)
+        (h : out ≡ lentAfter (stringsAt s (length lent / 2) 0 n (at + 8)) (entriesOf (setFrom s n (at + 8))) lent) where
       abbrev counted : ℕ → Result Ended
       counted p = ok (record { found = withEntries (withCount blank 0 n) n; ends = p })
 
-      set-is : onward (stringsAt s true (length lent / 2) 0 n (at + 8)) counted ≡ readStringSet s at (length lent / 2)
+      set-is : onward (stringsAt s (length lent / 2) 0 n (at + 8)) counted ≡ readStringSet s at (length lent / 2)
       unfolding judgeOf noted
       set-is =
           let k = number-known s at r e n q in
           rw (field-set kept (asCount 0), ask-value s at n (k .1) (asCount 0) (λ v. units kept 0 v (λ u. stop)) (k .0))
           (sym (judge-kept s (length lent / 2) n (at + 8) (withCount blank 0 n)
-          ∙ ap (λ (i : ℕ). onward (stringsAt s true (length lent / 2) 0 n (at + 8)) (λ p. ok (record { found = withEntries (withCount blank 0 n) i; ends = p }))) (omega arith)))
+          ∙ ap (λ (i : ℕ). onward (stringsAt s (length lent / 2) 0 n (at + 8)) (λ p. ok (record { found = withEntries (withCount blank 0 n) i; ends = p }))) (omega arith)))
 
       entries-is : entriesOf (run (field (set kept (asCount 0))) s at) ≡ entriesOf (setFrom s n (at + 8))
       unfolding entriesOf
@@ -86,3 +76,37 @@ module _ (s : List ℕ) (at : ℕ) (r : Number) (e : numRead r ≡ peekNumber s 
       pub set-read : (next : ℕ) → o ≡ P.Past next → (counted next ≡ readStringSet s at (length lent / 2))
           × (out ≡ lentAfter (readStringSet s at (length lent / 2)) (entriesOf (run (field (set kept (asCount 0))) s at)) lent)
       set-read next g = set-as (P.Past next) g
+
+-- strings that are passed over leave the record as it was
+module _ (s : List ℕ) (x : Record) where
+  abbrev toEnd : Result ℕ → Result Ended
+  toEnd o = onward o (λ e. ok (record { found = x; ends = e }))
+
+  pass-by : {size n at : ℕ} {t : Text} (k : ℕ → Pieces) → TextView size n at t → ((a : ℕ) → judgeOf s 0 0 x (k a) ≡ toEnd (skipOf (k a)))
+      → judgeOf s 0 0 x (afterText t passed k) ≡ toEnd (skipOf (afterText t passed k))
+  unfolding notText halfTaken textTaken afterText judgeOf skipOf entered
+  pass-by k (no-length h) g = refl
+  pass-by k (too-long h l) g = refl
+  pass-by k (no-contents h l c) g = refl
+  pass-by k (no-padding h l c) g = refl
+  pass-by k (is-whole h l) g = g _
+
+  judge-passed : (n at : ℕ) → judgeOf s 0 0 x (run (units passed 0 n (λ u. stop)) s at) ≡ toEnd (skipOf (run (units passed 0 n (λ u. stop)) s at))
+  unfolding units strings run judgeOf skipOf
+  judge-passed zero at = refl
+  judge-passed (suc n) at = pass-by (λ a. run (units passed 0 n (λ u. stop)) s a) (text-view (length s) (numberAt s at) at) (λ a. judge-passed n a)
+
+module _ (s : List ℕ) (at : ℕ) (r : Number) (e : numRead r ≡ peekNumber s at) (n : ℕ) (q : r ≡ Value n) (o : R.Passed)
+    (f : (m : Role) (k : Unit {0} → Tree) → skipOf (run (row m 0 0 n k) s (at + 8)) ≡ passedOr o (λ a. skipOf (run (k tt) s a))) where
+  skip-set-as : (o' : R.Passed) → o ≡ o' → toEnd s (withNumber blank 0 n) (passedOr o' ok) ≡ skipStringSet s at
+  unfolding judgeOf noted row strings run skipOf
+  skip-set-as o' g =
+      let k = number-known s at r e n q in
+      rw (field-set passed (asNumber 0), ask-value s at n (k .1) (asNumber 0) (λ v. units passed 0 v (λ u. stop)) (k .0))
+      (sym (judge-passed s (withNumber blank 0 n) n (at + 8) ∙ ap (toEnd s (withNumber blank 0 n)) (f passed (λ u. stop) ∙ ap (λ (y : R.Passed). passedOr y ok) g)))
+
+  pub skip-set-past : (next : ℕ) → o ≡ R'.Past next → ok (record { found = withNumber blank 0 n; ends = next }) ≡ skipStringSet s at
+  skip-set-past next g = skip-set-as (R'.Past next) g
+
+  pub skip-set-refused : (which place : ℕ) → o ≡ R'.Refused which place → refused which place 0 ≡ skipStringSet s at
+  skip-set-refused which place g = skip-set-as (R'.Refused which place) g

@@ -183,9 +183,9 @@ impl Cursor {
             },
             Number::Value(count) => {
                 let first = at + 8;
-                match runs::strings_at(s, first, count, false, 0) {
-                    Passed::Refused { which, place } => Read::Refused { which, place },
-                    Passed::Past(next) => Read::Value {
+                match strings::pass(s, first, 0, 0, count) {
+                    strings::Passed::Refused { which, place } => Read::Refused { which, place },
+                    strings::Passed::Past(next) => Read::Value {
                         value: count,
                         next: Cursor { at: next },
                     },

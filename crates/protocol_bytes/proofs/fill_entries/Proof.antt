@@ -2,7 +2,7 @@
 use borrow.Author.Needs.{needs}
 use Rattle.protocol_bytes.proofs.fill_entries.Statement.{statement}
 use Rattle.protocol_bytes.proofs.fill_entries.Tie as tie
-use Rattle.protocol.proofs.Filled.{filled-none, filled-all}
+use Rattle.reading.proofs.Filled.{filled-none, filled-all}
 
 pub fill-entries-spec : {M : Type 1} → statement M
 fill-entries-spec =

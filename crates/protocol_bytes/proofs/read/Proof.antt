@@ -7,7 +7,7 @@ use native.Mathlib.Omega.{arith}
 use Rattle.layouts.specs.Primitive.{version}
 use Rattle.layouts.specs.Shape.{layout}
 use Rattle.table.specs.Table.{groupsAt}
-use Rattle.protocol.proofs.Filled.{lent-kept, bytes-reported, lent-fronted}
+use Rattle.reading.proofs.Filled.{lent-kept, bytes-reported, lent-fronted}
 
 pub read-spec : {M : Type 1} → statement M
 read-spec =

@@ -9,10 +9,10 @@ use Rattle.runs.specs.Runs.{stringsAt}
 use Rattle.runs.proofs.Sets.{strings-all, strings-end, strings-fault, strings-full, strings-next}
 
 abbrev Inv-loop : tie.InvT-loop
-Inv-loop s from count decoded slots at₀ done₀ at done = (done ≤ count) × (stringsAt s decoded slots done (count - done) at ≡ stringsAt s decoded slots 0 count from)
+Inv-loop s from count slots at₀ done₀ at done = (done ≤ count) × (stringsAt s slots done (count - done) at ≡ stringsAt s slots 0 count from)
 
 abbrev μ-loop : tie.MeasureT-loop
-μ-loop s from count decoded slots at₀ done₀ at done = count - done
+μ-loop s from count slots at₀ done₀ at done = count - done
 
 pub strings-at-spec : {M : Type 1} → statement M
 strings-at-spec =
@@ -20,7 +20,7 @@ strings-at-spec =
     (tie.spec
     Inv-loop
     μ-loop
-    (λ c. (omega arith, strings-all _ _ _ _ _))
+    (λ c. (omega arith, strings-all _ _ _ _))
     (λ c κs. search needs)
     (λ c. search needs)
     (λ c. search strings-fault)

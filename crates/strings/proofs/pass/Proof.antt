@@ -6,13 +6,13 @@ use denote.Ref.{now}
 use Prim.Native.Nat.{_-_}
 use native.Mathlib.Omega.{arith}
 use lib.ListN.{length}
-use Rattle.strings.proofs.Rows.{Passing, passing-start, passing-end, passing-bad, passing-half, half-within, whole-on, passing-on}
+use Rattle.strings.proofs.Rows.{Passing, passing-start, passing-end, passing-bad, passing-half, half-within, whole-on, passing-on, expected-fits, passing-expected}
 
 abbrev Inv-loop : tie.InvT-loop
-Inv-loop s from pend extra left at₀ p₀ l₀ at p l = Passing s extra from pend left at p l
+Inv-loop s from pend extra left at₀ p₀ l₀ x₀ at p l x = Passing s extra from pend left at p l
 
 abbrev μ-loop : tie.MeasureT-loop
-μ-loop s from pend extra left at₀ p₀ l₀ at p l = length s - at
+μ-loop s from pend extra left at₀ p₀ l₀ x₀ at p l x = length s - at
 
 pub pass-spec : {M : Type 1} → statement M
 pass-spec =
@@ -26,11 +26,18 @@ pass-spec =
     (λ c. (λ m k. passing-end (now (c .before .before .before .before .before .args .s)) _ _ _ _ _ _ _ (c .before .before .before .loop .inv) _ (c .before .before .after-next .ensures) (c .enum-told .given .1) m k, c .before .before .before .loop .inv .on))
     (λ c. search needs)
     (λ c κs. search needs)
+    (λ c. omega (arith, expected-fits (now (c .before .before .before .before .before .before .before .before .args .s)) _ _ _ (c .before .is-expected .ensures) (c .if1 .taken)))
+    (λ c. omega (arith, expected-fits (now (c .before .before .before .before .before .before .before .before .args .s)) _ _ _ (c .before .is-expected .ensures) (c .if1 .taken)))
+    (λ c κs. search needs)
+    (λ c. omega (arith, c .padding .ensures, expected-fits (now (c .before .before .before .before .before .before .before .before .before .args .s)) _ _ _ (c .before .before .is-expected .ensures) (c .before .if1 .taken)))
+    (λ c. omega (arith, c .padding .ensures, expected-fits (now (c .before .before .before .before .before .before .before .before .before .args .s)) _ _ _ (c .before .before .is-expected .ensures) (c .before .if1 .taken)))
+    (λ c. passing-expected (now (c .before .before .before .before .before .before .before .before .before .args .s)) _ _ _ _ _ _ _ (c .before .before .before .before .before .before .before .loop .inv) _ (c .before .before .before .before .before .before .after-next .ensures) _ _ (c .before .before .before .before .m .given .1) _ _ (c .before .before .is-expected .ensures) (c .before .if1 .taken) _ (omega (arith, c .padding .ensures)))
+    (λ c κs. search needs)
     (λ c. search needs)
-    (λ c. (λ m k. passing-bad (now (c .before .before .before .before .before .before .before .before .before .before .args .s)) _ _ _ _ _ _ _ (c .before .before .before .before .before .before .before .before .loop .inv) _ (c .before .before .before .before .before .before .before .after-next .ensures) _ _ (c .before .before .before .before .before .m .given .1) _ (c .before .before .before .text-at .ensures) _ _ (c .before .t .given .1) m k, tt))
+    (λ c. (λ m k. passing-bad (now (c .before .before .before .before .before .before .before .before .before .before .before .before .args .s)) _ _ _ _ _ _ _ (c .before .before .before .before .before .before .before .before .before .before .loop .inv) _ (c .before .before .before .before .before .before .before .before .before .after-next .ensures) _ _ (c .before .before .before .before .before .before .before .m .given .1) _ (c .before .before .before .text-at .ensures) _ _ (c .before .t .given .1) m k, tt))
     (λ c. search needs)
-    (λ c. omega (arith, half-within (now (c .before .before .before .before .before .before .before .before .before .before .args .s)) _ _ _ _ _ _ _ (c .before .before .before .before .before .before .before .before .loop .inv) _ (c .before .before .before .before .before .before .before .after-next .ensures) _ _ (c .before .before .before .before .before .m .given .1) _ (c .before .before .before .text-at .ensures) _ _ (c .before .t2 .given .1)))
-    (λ c. (λ m k. passing-half (now (c .before .before .before .before .before .before .before .before .before .before .args .s)) _ _ _ _ _ _ _ (c .before .before .before .before .before .before .before .before .loop .inv) _ (c .before .before .before .before .before .before .before .after-next .ensures) _ _ (c .before .before .before .before .before .m .given .1) _ (c .before .before .before .text-at .ensures) _ _ (c .before .t2 .given .1) m k, tt))
+    (λ c. omega (arith, half-within (now (c .before .before .before .before .before .before .before .before .before .before .before .before .args .s)) _ _ _ _ _ _ _ (c .before .before .before .before .before .before .before .before .before .before .loop .inv) _ (c .before .before .before .before .before .before .before .before .before .after-next .ensures) _ _ (c .before .before .before .before .before .before .before .m .given .1) _ (c .before .before .before .text-at .ensures) _ _ (c .before .t2 .given .1)))
+    (λ c. (λ m k. passing-half (now (c .before .before .before .before .before .before .before .before .before .before .before .before .args .s)) _ _ _ _ _ _ _ (c .before .before .before .before .before .before .before .before .before .before .loop .inv) _ (c .before .before .before .before .before .before .before .before .before .after-next .ensures) _ _ (c .before .before .before .before .before .before .before .m .given .1) _ (c .before .before .before .text-at .ensures) _ _ (c .before .t2 .given .1) m k, tt))
     (λ c. search needs)
-    (λ c. omega (arith, whole-on (now (c .before .before .before .before .before .before .before .before .before .before .args .s)) _ _ _ _ _ _ _ (c .before .before .before .before .before .before .before .before .loop .inv) _ (c .before .before .before .before .before .before .before .after-next .ensures) _ _ (c .before .before .before .before .before .m .given .1) _ (c .before .before .before .text-at .ensures) _ _ _ (c .before .t3 .given .1)))
-    (λ c. passing-on (now (c .before .before .before .before .before .before .before .before .before .before .args .s)) _ _ _ _ _ _ _ (c .before .before .before .before .before .before .before .before .loop .inv) _ (c .before .before .before .before .before .before .before .after-next .ensures) _ _ (c .before .before .before .before .before .m .given .1) _ (c .before .before .before .text-at .ensures) _ _ _ (c .before .t3 .given .1)))
+    (λ c. omega (arith, whole-on (now (c .before .before .before .before .before .before .before .before .before .before .before .before .args .s)) _ _ _ _ _ _ _ (c .before .before .before .before .before .before .before .before .before .before .loop .inv) _ (c .before .before .before .before .before .before .before .before .before .after-next .ensures) _ _ (c .before .before .before .before .before .before .before .m .given .1) _ (c .before .before .before .text-at .ensures) _ _ _ (c .before .t3 .given .1)))
+    (λ c. passing-on (now (c .before .before .before .before .before .before .before .before .before .before .before .before .args .s)) _ _ _ _ _ _ _ (c .before .before .before .before .before .before .before .before .before .before .loop .inv) _ (c .before .before .before .before .before .before .before .before .before .after-next .ensures) _ _ (c .before .before .before .before .before .before .before .m .given .1) _ (c .before .before .before .text-at .ensures) _ _ _ (c .before .t3 .given .1)))

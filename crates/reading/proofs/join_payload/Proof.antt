@@ -1,8 +1,8 @@
--- `protocol::join_payload` meets its contract: no chunk is no payload.
+-- `reading::join_payload` meets its contract: no chunk is no payload.
 use borrow.Author.Needs.{needs}
-use Rattle.protocol.proofs.join_payload.Statement.{statement}
-use Rattle.protocol.proofs.join_payload.Tie as tie
-use Rattle.protocol.proofs.Filled.{filled-none, filled-all}
+use Rattle.reading.proofs.join_payload.Statement.{statement}
+use Rattle.reading.proofs.join_payload.Tie as tie
+use Rattle.reading.proofs.Filled.{filled-none, filled-all}
 
 pub join-payload-spec : {M : Type 1} → statement M
 join-payload-spec =

@@ -1,8 +1,8 @@
--- `protocol::fill_entries` meets its contract: none are none.
+-- `reading::fill_entries` meets its contract: none are none.
 use borrow.Author.Needs.{needs}
-use Rattle.protocol.proofs.fill_entries.Statement.{statement}
-use Rattle.protocol.proofs.fill_entries.Tie as tie
-use Rattle.protocol.proofs.Filled.{filled-none, filled-all}
+use Rattle.reading.proofs.fill_entries.Statement.{statement}
+use Rattle.reading.proofs.fill_entries.Tie as tie
+use Rattle.reading.proofs.Filled.{filled-none, filled-all}
 
 pub fill-entries-spec : {M : Type 1} → statement M
 fill-entries-spec =

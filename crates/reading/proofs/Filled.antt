@@ -27,7 +27,7 @@ use Rattle.output.specs.Numbers.{bytesOf}
 use Rattle.output.proofs.Numbers.{bytes-none, bytes-length}
 use Rattle.fill.specs.Fill.{Put}
 use Rattle.fill.proofs.Room.{put-all}
-use Rattle.protocol.specs.Protocol.{answeredAs, fronted, Reported}
+use Rattle.reading.specs.Reading.{answeredAs, fronted, Reported}
 
 none-there : (xs : List ℕ) → length xs ≡ 0 → xs ≡ []
 none-there [] e = refl

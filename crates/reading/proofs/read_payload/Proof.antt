@@ -1,13 +1,13 @@
--- `protocol::read_payload` meets its contract: the payload of what is judged fine fits.
+-- `reading::read_payload` meets its contract: the payload of what is judged fine fits.
 use borrow.Author.Needs.{needs}
-use Rattle.protocol.proofs.read_payload.Statement.{statement}
-use Rattle.protocol.proofs.read_payload.Tie as tie
+use Rattle.reading.proofs.read_payload.Statement.{statement}
+use Rattle.reading.proofs.read_payload.Tie as tie
 use denote.Ref.{now}
 use mathlib.Core.Path.{refl}
 use Rattle.layouts.specs.Primitive.{version}
 use Rattle.layouts.specs.Shape.{layout}
 use Rattle.table.specs.Table.{groupsAt}
-use Rattle.protocol.proofs.Filled.{lent-kept, payload-reported, lent-fronted}
+use Rattle.reading.proofs.Filled.{lent-kept, payload-reported, lent-fronted}
 
 pub read-payload-spec : {M : Type 1} → statement M
 read-payload-spec =

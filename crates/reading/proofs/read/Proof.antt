@@ -1,13 +1,13 @@
--- `protocol::read` meets its contract: what is judged fine fits.
+-- `reading::read` meets its contract: what is judged fine fits.
 use borrow.Author.Needs.{needs}
-use Rattle.protocol.proofs.read.Statement.{statement}
-use Rattle.protocol.proofs.read.Tie as tie
+use Rattle.reading.proofs.read.Statement.{statement}
+use Rattle.reading.proofs.read.Tie as tie
 use denote.Ref.{now}
 use native.Mathlib.Omega.{arith}
 use Rattle.layouts.specs.Primitive.{version}
 use Rattle.layouts.specs.Shape.{layout}
 use Rattle.table.specs.Table.{groupsAt}
-use Rattle.protocol.proofs.Filled.{lent-kept, entries-reported, lent-fronted}
+use Rattle.reading.proofs.Filled.{lent-kept, entries-reported, lent-fronted}
 
 pub read-spec : {M : Type 1} → statement M
 read-spec =

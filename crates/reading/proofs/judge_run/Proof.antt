@@ -1,12 +1,12 @@
--- `protocol::judge_run` meets its contract: the kind is by its code.
+-- `reading::judge_run` meets its contract: the kind is by its code.
 use borrow.Author.Needs.{needs}
-use Rattle.protocol.proofs.judge_run.Statement.{statement}
-use Rattle.protocol.proofs.judge_run.Tie as tie
+use Rattle.reading.proofs.judge_run.Statement.{statement}
+use Rattle.reading.proofs.judge_run.Tie as tie
 use denote.Ref.{now}
 use Rattle.layouts.specs.Primitive.{version}
 use Rattle.layouts.specs.Shape.{layout}
 use Rattle.table.specs.Table.{groupsAt}
-use Rattle.protocol.proofs.Filled.{read-refused, read-fine}
+use Rattle.reading.proofs.Filled.{read-refused, read-fine}
 
 pub judge-run-spec : {M : Type 1} → statement M
 judge-run-spec =
