@@ -2,7 +2,7 @@
 //! `native requests SEED COUNT THREADS` holds their answers against each other, over the requests of `oracle generate SEED COUNT`.
 //! `native text STRIDE THREADS` holds the library's text against Rust's `from_utf8`: all strings of up to three bytes, and of those of four that begin with
 //! E0 or above every STRIDE-th.
-//! `native limit` holds their answers to strings and chunks of the limit and above against each other.
+//! `native limit` holds their answers to strings and chunks of the limit and above, and to long strings in a row, against each other.
 //! Exit status: 0 no difference, 1 a difference, 2 bad usage.
 #![feature(alloc_error_hook)]
 mod judge;
