@@ -1,6 +1,3 @@
-pub mod Ways
-pub mod Quiet
-pub mod Left
-pub mod Whole
+pub mod Form
 pub mod Unique
 pub mod Demands

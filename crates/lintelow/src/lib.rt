@@ -135,7 +135,7 @@ pub extern "C" fn lintelow_parse_handshake(
     if block.len() < block::BLOCK {
         return output::OUTPUT_FULL;
     }
-    let greeted = handshake::parse_handshake_bytes(client, daemon, entries);
+    let greeted = handshake_bytes::parse_handshake_bytes(client, daemon, entries);
     block::put(block, greeted)
 }
 
@@ -154,6 +154,6 @@ pub extern "C" fn lintelow_parse_daemon_handshake(
     if block.len() < block::BLOCK {
         return output::OUTPUT_FULL;
     }
-    let heard = handshake::parse_daemon_handshake_bytes(major, minor, daemon, entries);
+    let heard = handshake_bytes::parse_daemon_handshake_bytes(major, minor, daemon, entries);
     block::put(block, heard)
 }

@@ -1,10 +1,11 @@
+-- `handshake::fill_daemon` meets its contract: one turn after the other.
 use borrow.Author.Needs.{needs}
 use Rattle.handshake.proofs.fill_daemon.Statement.{statement}
 use Rattle.handshake.proofs.fill_daemon.Tie as tie
 use Rattle.fill.proofs.Room.{put-join}
 
 returns : tie.Need-returns
-returns c = put-join _ _ _ _ _ _ _ _ (c .before .before .before .before .before .before .fill-turn .ensures) (c .before .before .fill-turn2 .ensures)
+returns c = put-join _ _ _ _ _ _ _ _ (c .before .before .before .before .before .before .fill-entries .ensures) (c .before .before .fill-entries2 .ensures)
 
 pub fill-daemon-spec : {M : Type 1} → statement M
 fill-daemon-spec =

@@ -1,0 +1,26 @@
+-- `turns::Sofar::after` meets its contract: a refusal names the stream, else that stream moves on.
+use borrow.Author.Needs.{needs}
+use Rattle.turns.proofs.Sofar.after.Statement.{statement}
+use Rattle.turns.proofs.Sofar.after.Tie as tie
+use Rattle.turns.specs.Sofar.{bothOf, said}
+use Rattle.turns.proofs.Ways.{stream-bit, after-refused, after-fine}
+
+returns : tie.Need-returns
+returns c = after-refused (c .before .before .before .before .before .before .args .of-daemon) (bothOf (c .before .before .before .before .before .before .args .self)) (c .before .before .before .before .before .before .args .turn) _ _ _ _ _ (c .before .before .before .o .given .1) (c .refuse .ensures) (stream-bit (c .before .before .before .before .before .before .args .of-daemon) _ (c .before .bit .ensures))
+
+returns-2 : tie.Need-returns-2
+unfolding said
+returns-2 c = after-fine (c .before .before .before .before .before .args .of-daemon) (bothOf (c .before .before .before .before .before .args .self)) (c .before .before .before .before .before .args .turn) _ _ (c .before .either .ensures) (c .either2 .ensures) (c .before .before .enum-told .given .1)
+
+pub after-spec : {M : Type 1} → statement M
+after-spec =
+    tie.close
+    (tie.spec
+    (λ c. search needs)
+    (λ c κs. search needs)
+    (λ c κs. search needs)
+    (λ c. search needs)
+    (λ c κs. search needs)
+    (λ c κs. search needs)
+    returns
+    returns-2)
