@@ -1,6 +1,8 @@
-// One line for each reply, put together in a buffer. Each function takes how much of the buffer is in use and answers how much is in use after it.
-use crate::reply::Outcome;
-use crate::reply::Reply;
+// One line for each answer, put together in a buffer. Each function takes how much of the buffer is in use and answers how much is in use after it.
+use by_number::lent;
+use by_number::told;
+
+const READ_FRAMED: u64 = 16;
 
 // A full buffer is written out first.
 fn put_byte(text: &mut [u8], n: usize, b: u8) -> usize {
@@ -26,63 +28,69 @@ fn put(text: &mut [u8], n: usize, words: &[u8]) -> usize {
     m
 }
 
+// Before each but the first of a list.
+fn put_comma(text: &mut [u8], n: usize, is_first: bool) -> usize {
+    if is_first {
+        return n;
+    }
+    put_byte(text, n, b',')
+}
+
 fn put_number(text: &mut [u8], n: usize, x: u64) -> usize {
     let mut digits = [0u8; 20];
     let k = io::decimal(x, &mut digits);
     put(text, n, &digits[..k])
 }
 
-// A number behind a word.
-fn put_named(text: &mut [u8], n: usize, name: &[u8], x: u64) -> usize {
-    let m = put(text, n, name);
-    put_number(text, m, x)
-}
-
-// Before each but the first of a list.
-fn put_comma(text: &mut [u8], n: usize, i: usize) -> usize {
-    if 0 < i {
-        return put_byte(text, n, b',');
+// Which number of the block the line has as number i: a string of the block's own is an entry in the line, or the payload, and of a refused view the refusal is
+// number 0 and its place number 1.
+fn shown(call: u64, i: usize) -> usize {
+    if (call == READ_FRAMED) & (i == told::FIRST_NUMBER) {
+        return told::OUTPUT;
     }
-    n
+    if (call == by_number::ENTRY_VIEW) & (i == told::FIRST_NUMBER) {
+        return told::REFUSAL;
+    }
+    if (call == by_number::ENTRY_VIEW) & (i == told::OWN_START) {
+        return told::PLACE;
+    }
+    if told::is_own(call) & ((i == told::OWN_START) | (i == told::OWN_LENGTH)) {
+        return told::ZERO;
+    }
+    i
 }
 
-fn put_numbers(text: &mut [u8], n: usize, xs: &[u64]) -> usize {
-    let mut m = n;
-    let mut i = 0;
-    while i < xs.len() {
-        m = put_comma(text, m, i);
-        m = put_number(text, m, xs[i]);
+// The numbers of the block from one up to another, behind a word.
+fn put_numbers(
+    text: &mut [u8],
+    n: usize,
+    name: &[u8],
+    call: u64,
+    block: &[u8],
+    from: usize,
+    to: usize,
+) -> usize {
+    let mut m = put(text, n, name);
+    let mut i = from;
+    while i < to {
+        m = put_comma(text, m, i == from);
+        m = put_number(text, m, told::number(block, shown(call, i)));
         i += 1;
     }
     m
 }
 
-fn put_entry(text: &mut [u8], n: usize, start: u64, len: u64) -> usize {
-    let m = put_number(text, n, start);
-    put_named(text, m, b":", len)
-}
-
-fn put_entries(text: &mut [u8], n: usize, slots: &[u64], entries: usize) -> usize {
-    let mut m = n;
+fn put_entries(text: &mut [u8], n: usize, entries: &[u8]) -> usize {
+    let mut m = put(text, n, b" e=");
     let mut i = 0;
-    while i < entries {
-        if slots.len() / 2 <= i {
-            return m;
-        }
-        m = put_comma(text, m, i);
-        m = put_entry(text, m, slots[2 * i], slots[2 * i + 1]);
+    while i < entries.len() / lent::ENTRY {
+        m = put_comma(text, m, i == 0);
+        m = put_number(text, m, lent::number(entries, lent::ENTRY * i));
+        m = put_byte(text, m, b':');
+        m = put_number(text, m, lent::number(entries, lent::ENTRY * i + 8));
         i += 1;
     }
     m
-}
-
-fn put_strings(text: &mut [u8], n: usize, r: Reply, slots: &[u64]) -> usize {
-    let own = r.own;
-    let m = put(text, n, b" e=");
-    if r.has_own {
-        return put_entries(text, m, &own, 1);
-    }
-    put_entries(text, m, slots, r.entries)
 }
 
 fn digit(x: u8) -> u8 {
@@ -94,7 +102,7 @@ fn digit(x: u8) -> u8 {
 }
 
 fn put_hex(text: &mut [u8], n: usize, bytes: &[u8]) -> usize {
-    let mut m = n;
+    let mut m = put(text, n, b" p=");
     let mut i = 0;
     while i < bytes.len() {
         let b = bytes[i];
@@ -105,76 +113,56 @@ fn put_hex(text: &mut [u8], n: usize, bytes: &[u8]) -> usize {
     m
 }
 
-fn put_ends(text: &mut [u8], r: Reply) -> usize {
-    let n = put_named(text, 0, b"ok kind=", r.kind);
-    let m = put_named(text, n, b" end=", r.ends as u64);
-    put_named(text, m, b" end2=", r.ends2 as u64)
+fn put_told(text: &mut [u8], call: u64, block: &[u8]) -> usize {
+    let mut n = put_numbers(text, 0, b"ok kind=", call, block, told::KIND, told::END);
+    n = put_numbers(text, n, b" end=", call, block, told::END, told::END2);
+    n = put_numbers(text, n, b" end2=", call, block, told::END2, told::ENTRIES);
+    n = put_numbers(
+        text,
+        n,
+        b" n=",
+        call,
+        block,
+        told::FIRST_NUMBER,
+        told::FIRST_COUNT,
+    );
+    put_numbers(text, n, b" c=", call, block, told::FIRST_COUNT, told::ZERO)
 }
 
-fn put_twelve(text: &mut [u8], n: usize, r: Reply) -> usize {
-    let numbers = r.numbers;
-    let m = put(text, n, b" n=");
-    put_numbers(text, m, &numbers)
-}
-
-fn put_counts(text: &mut [u8], n: usize, r: Reply) -> usize {
-    let counts = r.counts;
-    let m = put(text, n, b" c=");
-    put_numbers(text, m, &counts)
-}
-
-fn put_payload(text: &mut [u8], n: usize, payload: &[u8], is_kept: bool) -> usize {
-    let m = put(text, n, b" p=");
-    let e = put_hex(text, m, payload);
+pub fn put_fine(
+    text: &mut [u8],
+    call: u64,
+    block: &[u8],
+    entries: &[u8],
+    payload: &[u8],
+    is_kept: bool,
+) -> usize {
+    let mut n = put_told(text, call, block);
+    n = put_entries(text, n, entries);
+    n = put_hex(text, n, payload);
     if is_kept {
-        return put(text, e, b" kept=1");
+        return put(text, n, b" kept=1");
     }
-    put(text, e, b" kept=0")
+    put(text, n, b" kept=0")
 }
 
-fn put_fine(text: &mut [u8], r: Reply, slots: &[u64], payload: &[u8], is_kept: bool) -> usize {
-    let mut n = put_ends(text, r);
-    n = put_twelve(text, n, r);
-    n = put_counts(text, n, r);
-    n = put_strings(text, n, r, slots);
-    put_payload(text, n, payload, is_kept)
-}
-
-fn put_refusal(text: &mut [u8], which: u64, place: usize, stream: u64, is_kept: bool) -> usize {
-    let mut n = put_named(text, 0, b"no ", which);
-    n = put_named(text, n, b" ", place as u64);
-    n = put_named(text, n, b" ", stream);
+pub fn put_refusal(text: &mut [u8], block: &[u8], is_kept: bool) -> usize {
+    let mut n = put_numbers(text, 0, b"no ", 0, block, told::REFUSAL, told::PLACE);
+    n = put_numbers(text, n, b" ", 0, block, told::PLACE, told::STREAM);
+    n = put_numbers(text, n, b" ", 0, block, told::STREAM, told::KIND);
     if is_kept {
         return n;
     }
     put(text, n, b" touched")
 }
 
-fn end(text: &mut [u8], n: usize) {
+pub fn put_no_call(text: &mut [u8]) -> usize {
+    put(text, 0, b"no call")
+}
+
+pub fn end(text: &mut [u8], n: usize) {
     let m = put_byte(text, n, b'\n');
     if m <= text.len() {
         io::write_all(1, &text[..m]);
-    }
-}
-
-pub fn write(text: &mut [u8], r: Reply, slots: &[u64], payload: &[u8], is_kept: bool) {
-    let o = r.outcome;
-    match o {
-        Outcome::Fine => {
-            let n = put_fine(text, r, slots, payload, is_kept);
-            end(text, n);
-        }
-        Outcome::Refused {
-            which,
-            place,
-            stream,
-        } => {
-            let n = put_refusal(text, which, place, stream, is_kept);
-            end(text, n);
-        }
-        Outcome::NoCall => {
-            let n = put(text, 0, b"no call");
-            end(text, n);
-        }
     }
 }

@@ -1,5 +1,5 @@
 // A request: eight-byte numbers call, operation, major, minor, slots, room, length of a; a; length of b; b.
-use number::Number;
+use by_number::lent;
 
 const HEAD: usize = 56;
 
@@ -21,27 +21,15 @@ pub enum Asked {
     Stopped,
 }
 
-// The number at a place, and 0 where there is none.
-fn number_at(s: &[u8], at: usize) -> u64 {
-    if s.len() < at {
-        return 0;
-    }
-    let n = number::read(&s[at..]);
-    match n {
-        Number::Value(x) => x,
-        Number::Short => 0,
-    }
-}
-
 fn of_head(head: &[u8]) -> Request {
     Request {
-        call: number_at(head, 0),
-        operation: number_at(head, 8),
-        major: (number_at(head, 16) % 65536) as u16,
-        minor: (number_at(head, 24) % 256) as u8,
-        slots: number_at(head, 32) as usize,
-        room: number_at(head, 40) as usize,
-        a: number_at(head, 48) as usize,
+        call: lent::number(head, 0),
+        operation: lent::number(head, 8),
+        major: (lent::number(head, 16) % 65536) as u16,
+        minor: (lent::number(head, 24) % 256) as u8,
+        slots: lent::number(head, 32) as usize,
+        room: lent::number(head, 40) as usize,
+        a: lent::number(head, 48) as usize,
         b: 0,
     }
 }
@@ -64,7 +52,7 @@ fn take_length() -> u64 {
     if n < 8 {
         return u64::MAX;
     }
-    number_at(&length, 0)
+    lent::number(&length, 0)
 }
 
 // Both streams.
@@ -97,18 +85,4 @@ pub fn read(streams: &mut [u8], slots: usize, room: usize) -> Asked {
         return Asked::Stopped;
     }
     take_streams(q, streams)
-}
-
-// The numbers that b holds as entries of sixteen bytes, at the start of out; how many.
-pub fn entries_of(b: &[u8], out: &mut [u64]) -> usize {
-    let n = b.len() / 16 * 2;
-    let mut i = 0;
-    while i < n {
-        if out.len() <= i {
-            return i;
-        }
-        out[i] = number_at(b, 8 * i);
-        i += 1;
-    }
-    n
 }

@@ -1,6 +1,6 @@
 // The list: requests one after the other, each with what the Rust answers. compare/README.md, "The list", has its form. Nothing here can fail: past the end
 // a number is 0 and a string is empty, and what was cut differs from what the library says.
-use number::Number;
+use by_number::lent;
 
 // Before a number of eight bytes; a smaller byte is the number itself.
 const LONG: u8 = 255;
@@ -23,18 +23,6 @@ fn wide(b: u8) -> u64 {
     b as u64
 }
 
-// The eight bytes at a place as a number.
-pub fn eight(s: &[u8], at: usize) -> u64 {
-    if s.len() < at {
-        return 0;
-    }
-    let n = number::read(&s[at..]);
-    match n {
-        Number::Value(x) => x,
-        Number::Short => 0,
-    }
-}
-
 pub fn number(s: &[u8], at: usize) -> u64 {
     if s.len() <= at {
         return 0;
@@ -42,7 +30,7 @@ pub fn number(s: &[u8], at: usize) -> u64 {
     if s[at] < LONG {
         return wide(s[at]);
     }
-    eight(s, at + 1)
+    lent::number(s, at + 1)
 }
 
 // The place behind a number.
@@ -59,21 +47,9 @@ pub fn past(s: &[u8], at: usize) -> usize {
     at + 9
 }
 
-// n bytes from a place on.
-pub fn part(s: &[u8], from: usize, n: usize) -> &[u8] {
-    if s.len() < from {
-        return &s[..0];
-    }
-    if s.len() - from < n {
-        return &s[..0];
-    }
-    let to = from + n;
-    &s[from..to]
-}
-
 // The string at a place: its length, then its bytes.
 pub fn string(s: &[u8], at: usize) -> &[u8] {
-    part(s, past(s, at), number(s, at) as usize)
+    lent::part(s, past(s, at), number(s, at) as usize)
 }
 
 // The place behind a string.

@@ -1,20 +1,20 @@
 // Replays a list of requests that the Rust answered once: makes each call by the C boundary and holds the answer against the Rust's. compare/README.md,
 // "The list", says how the list is made.
-mod calls;
 mod hold;
-mod lent;
 mod list;
 
+use by_number::lent;
 use list::Request;
 
 // More than the list has, and more than any of its requests asks for.
 const LIST: usize = 1048576;
 
-const MOST_SLOTS: usize = 256;
-
+// 256 slots.
 const ENTRIES: usize = 4096;
 
 const ROOM: usize = 4096;
+
+const BLOCK: usize = 200;
 
 // `first` is the first request that differs, counted from 0; without one it is no request's number.
 struct Tally {
@@ -50,36 +50,50 @@ fn counted(t: Tally, is_same: bool, is_refusal: bool) -> Tally {
     }
 }
 
+fn call(q: Request, list: &[u8], entries: &mut [u8], room: &mut [u8], block: &mut [u8]) -> u64 {
+    let a = list::string(list, q.a);
+    let b = list::string(list, q.b);
+    by_number::answer(
+        q.call,
+        q.operation,
+        q.major,
+        q.minor,
+        a,
+        b,
+        entries,
+        room,
+        block,
+    )
+}
+
 // One call on lent memory that holds the pattern.
-fn is_same(q: Request, list: &[u8], entries: &mut [u8], room: &mut [u8]) -> bool {
-    let mut block = [0u8; 200];
+fn is_same(q: Request, list: &[u8], entries: &mut [u8], room: &mut [u8], block: &mut [u8]) -> bool {
     lent::fill(entries);
     lent::fill(room);
-    let refusal = calls::answer(q, list, entries, room, &mut block);
+    let refusal = call(q, list, entries, room, block);
     if refusal == 0 {
-        return hold::is_answer(q, list, entries, room, &block);
+        return hold::is_answer(q, list, entries, room, block);
     }
     hold::is_refusal(list::string(list, q.said), refusal, entries, room)
 }
 
-fn slots_length(slots: usize) -> usize {
-    if slots < MOST_SLOTS {
-        return 16 * slots;
-    }
-    ENTRIES
-}
-
-fn replay(list: &[u8], q: Request, entries: &mut [u8], room: &mut [u8]) -> bool {
+fn replay(list: &[u8], q: Request, entries: &mut [u8], room: &mut [u8], block: &mut [u8]) -> bool {
     is_same(
         q,
         list,
-        lent::some(entries, slots_length(q.slots)),
+        lent::some_slots(entries, q.slots),
         lent::some(room, q.room),
+        block,
     )
 }
 
 // Each turn takes a byte at least, but no proof has to say so: turns are counted down.
-fn replay_all(list: &[u8], entries: &mut [u8; ENTRIES], room: &mut [u8; ROOM]) -> Tally {
+fn replay_all(
+    list: &[u8],
+    entries: &mut [u8; ENTRIES],
+    room: &mut [u8; ROOM],
+    block: &mut [u8; BLOCK],
+) -> Tally {
     let mut t = Tally {
         requests: 0,
         same: 0,
@@ -90,7 +104,7 @@ fn replay_all(list: &[u8], entries: &mut [u8; ENTRIES], room: &mut [u8; ROOM]) -
     let mut turns = list.len();
     while turns > 0 && at < list.len() {
         let q = list::next(list, at);
-        let is_same = replay(list, q, entries, room);
+        let is_same = replay(list, q, entries, room, block);
         let said = list::string(list, q.said);
         t = counted(t, is_same, said.len() == 0);
         at = q.next;
@@ -114,9 +128,14 @@ fn report(t: Tally) {
     }
 }
 
-fn replay_input(list: &mut [u8; LIST], entries: &mut [u8; ENTRIES], room: &mut [u8; ROOM]) {
+fn replay_input(
+    list: &mut [u8; LIST],
+    entries: &mut [u8; ENTRIES],
+    room: &mut [u8; ROOM],
+    block: &mut [u8; BLOCK],
+) {
     let n = io::read_full(0, list);
-    let t = replay_all(list::part(list, 0, n), entries, room);
+    let t = replay_all(lent::part(list, 0, n), entries, room, block);
     report(t);
 }
 
@@ -124,5 +143,6 @@ fn main() {
     let mut list = [0u8; LIST];
     let mut entries = [0u8; ENTRIES];
     let mut room = [0u8; ROOM];
-    replay_input(&mut list, &mut entries, &mut room);
+    let mut block = [0u8; BLOCK];
+    replay_input(&mut list, &mut entries, &mut room, &mut block);
 }

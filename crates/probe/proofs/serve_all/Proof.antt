@@ -4,10 +4,10 @@ use Rattle.probe.proofs.serve_all.Statement.{statement}
 use Rattle.probe.proofs.serve_all.Tie as tie
 
 abbrev Inv-loop : tie.InvT-loop
-Inv-loop streams₀ slots₀ room₀ entries₀ text₀ turns₀ streams slots room entries text turns = Unit {0}
+Inv-loop streams₀ entries₀ room₀ block₀ text₀ turns₀ streams entries room block text turns = Unit {0}
 
 abbrev μ-loop : tie.MeasureT-loop
-μ-loop streams₀ slots₀ room₀ entries₀ text₀ turns₀ streams slots room entries text turns = turns
+μ-loop streams₀ entries₀ room₀ block₀ text₀ turns₀ streams entries room block text turns = turns
 
 pub serve-all-spec : {M : Type 1} → statement M
 serve-all-spec =

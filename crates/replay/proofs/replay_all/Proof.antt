@@ -4,10 +4,10 @@ use Rattle.replay.proofs.replay_all.Statement.{statement}
 use Rattle.replay.proofs.replay_all.Tie as tie
 
 abbrev Inv-loop : tie.InvT-loop
-Inv-loop list entries₀ room₀ t₀ at₀ turns₀ entries room t at turns = Unit {0}
+Inv-loop list entries₀ room₀ block₀ t₀ at₀ turns₀ entries room block t at turns = Unit {0}
 
 abbrev μ-loop : tie.MeasureT-loop
-μ-loop list entries₀ room₀ t₀ at₀ turns₀ entries room t at turns = turns
+μ-loop list entries₀ room₀ block₀ t₀ at₀ turns₀ entries room block t at turns = turns
 
 pub replay-all-spec : {M : Type 1} → statement M
 replay-all-spec =

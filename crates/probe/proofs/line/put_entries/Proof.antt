@@ -7,10 +7,10 @@ use Rattle.probe.proofs.line.put_entries.Statement.{statement}
 use Rattle.probe.proofs.line.put_entries.Tie as tie
 
 abbrev Inv-loop : tie.InvT-loop
-Inv-loop text₀ n slots entries m₀ i₀ text m i = length text ≡ length text₀
+Inv-loop text₀ n entries m₀ i₀ text m i = length text ≡ length text₀
 
 abbrev μ-loop : tie.MeasureT-loop
-μ-loop text₀ n slots entries m₀ i₀ text m i = entries - i
+μ-loop text₀ n entries m₀ i₀ text m i = length entries - i
 
 pub put-entries-spec : {M : Type 1} → statement M
 put-entries-spec =
@@ -19,16 +19,16 @@ put-entries-spec =
     Inv-loop
     μ-loop
     (λ c. search needs)
-    (λ c. search needs)
+    (λ c κs. search needs)
     (λ c. search needs)
     (λ c κs. search needs)
     (λ c. search needs)
+    (λ c κs. search needs)
+    (λ c κs. search needs)
+    (λ c κs. search needs)
     (λ c. search needs)
     (λ c. search needs)
-    (λ c. search needs)
-    (λ c. search needs)
-    (λ c. search needs)
-    (λ c. search needs)
+    (λ c κs. search needs)
     (λ c κs. search needs)
     (λ c. search needs)
     (λ c. search needs)

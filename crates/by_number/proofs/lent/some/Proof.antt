@@ -1,12 +1,12 @@
--- `probe::lent::numbers` is safe and ends.
+-- `by_number::lent::some` is safe and ends.
 use mathlib.Core.Path.{sym}
 use lib.Seq.{length-take-le}
 use borrow.Author.Needs.{needs}
-use Rattle.probe.proofs.lent.numbers.Statement.{statement}
-use Rattle.probe.proofs.lent.numbers.Tie as tie
+use Rattle.by_number.proofs.lent.some.Statement.{statement}
+use Rattle.by_number.proofs.lent.some.Tie as tie
 
-pub numbers-spec : {M : Type 1} → statement M
-numbers-spec =
+pub some-spec : {M : Type 1} → statement M
+some-spec =
     tie.close
     (tie.spec
     (λ c. sym (length-take-le _ _ (c .before .if1 .taken)))

@@ -1,10 +1,10 @@
--- `probe::lent::some_slots` is safe and ends.
+-- `by_number::lent::some_slots` is safe and ends.
 use mathlib.Core.Path.{sym}
 use lib.Seq.{length-take-le}
 use native.Mathlib.Omega.{arith}
 use borrow.Author.Needs.{needs}
-use Rattle.probe.proofs.lent.some_slots.Statement.{statement}
-use Rattle.probe.proofs.lent.some_slots.Tie as tie
+use Rattle.by_number.proofs.lent.some_slots.Statement.{statement}
+use Rattle.by_number.proofs.lent.some_slots.Tie as tie
 
 pub some-slots-spec : {M : Type 1} → statement M
 some-slots-spec =

@@ -1,24 +1,26 @@
-// The calls by the numbers of the probe's table, over the C boundary: each writes its answer into the block, and gives 0 or the refusal's number.
-use crate::list;
-use crate::list::Request;
+// The calls by the numbers of the probe's table, over the C boundary: for the programs `probe` and `replay`, and no part of the library that is shipped. Each
+// writes its answer into the block and gives 0, the refusal's number or NO_CALL. No contracts: what is proved is that each ends without a fault.
+pub mod lent;
+pub mod told;
+
 use lintelow::reads;
 use lintelow::writes;
 
 // No refusal has this number.
-const NO_CALL: u64 = 99;
+pub const NO_CALL: u64 = 99;
+
+pub const ENTRY_VIEW: u64 = 32;
 
 fn operation(
-    q: Request,
-    list: &[u8],
+    call: u64,
+    op: u64,
+    major: u16,
+    minor: u8,
+    a: &[u8],
     entries: &mut [u8],
     room: &mut [u8],
     block: &mut [u8],
 ) -> u64 {
-    let call = q.call;
-    let op = q.operation;
-    let major = q.major;
-    let minor = q.minor;
-    let a = list::string(list, q.a);
     match call {
         1 => lintelow::lintelow_read_op_args(op, major, minor, a, entries, room, block),
         2 => lintelow::lintelow_skip_op_args(op, major, minor, a, block),
@@ -27,12 +29,15 @@ fn operation(
     }
 }
 
-fn conversation(q: Request, list: &[u8], entries: &mut [u8], block: &mut [u8]) -> u64 {
-    let call = q.call;
-    let major = q.major;
-    let minor = q.minor;
-    let a = list::string(list, q.a);
-    let b = list::string(list, q.b);
+fn conversation(
+    call: u64,
+    major: u16,
+    minor: u8,
+    a: &[u8],
+    b: &[u8],
+    entries: &mut [u8],
+    block: &mut [u8],
+) -> u64 {
     match call {
         5 => lintelow::lintelow_read_stderr_loop(a, block),
         6 => lintelow::lintelow_read_stderr_with_error(a, entries, block),
@@ -55,9 +60,7 @@ fn plain_reader(call: u64, a: &[u8], block: &mut [u8]) -> u64 {
     }
 }
 
-fn reader(q: Request, list: &[u8], entries: &mut [u8], room: &mut [u8], block: &mut [u8]) -> u64 {
-    let call = q.call;
-    let a = list::string(list, q.a);
+fn reader(call: u64, a: &[u8], entries: &mut [u8], room: &mut [u8], block: &mut [u8]) -> u64 {
     match call {
         14 => reads::lintelow_read_string_set(a, 0, entries, block),
         16 => reads::lintelow_read_framed(a, 0, room, block),
@@ -76,42 +79,44 @@ fn number_writer(call: u64, x: u64, room: &mut [u8], block: &mut [u8]) -> u64 {
 }
 
 // A set's entries are b.
-fn writer(q: Request, list: &[u8], room: &mut [u8], block: &mut [u8]) -> u64 {
-    let call = q.call;
-    let x = q.operation;
-    let a = list::string(list, q.a);
-    let b = list::string(list, q.b);
+fn writer(call: u64, x: u64, a: &[u8], b: &[u8], room: &mut [u8], block: &mut [u8]) -> u64 {
     match call {
         22 => writes::lintelow_write_bytes(room, a, block),
         23 => writes::lintelow_write_string(room, a, block),
         24 => writes::lintelow_write_string_set(room, a, b, x as usize, block),
+        25 => writes::lintelow_write_framed(room, a, block),
         _ => number_writer(call, x, room, block),
     }
 }
 
-fn test(q: Request, list: &[u8], block: &mut [u8]) -> u64 {
-    let call = q.call;
+// A view's entries are b.
+fn test(call: u64, x: u64, a: &[u8], b: &[u8], block: &mut [u8]) -> u64 {
     match call {
-        30 => reads::lintelow_extract_store_path(list::string(list, q.a), block),
-        31 => reads::lintelow_op_has_client_framed_data(q.operation, block),
-        _ => reads::lintelow_version_from_wire(q.operation, block),
+        30 => reads::lintelow_extract_store_path(a, block),
+        31 => reads::lintelow_op_has_client_framed_data(x, block),
+        ENTRY_VIEW => reads::lintelow_entry(a, b, x as usize, block),
+        _ => reads::lintelow_version_from_wire(x, block),
     }
 }
 
+// x is the operation, or the number that a call takes.
 pub fn answer(
-    q: Request,
-    list: &[u8],
+    call: u64,
+    x: u64,
+    major: u16,
+    minor: u8,
+    a: &[u8],
+    b: &[u8],
     entries: &mut [u8],
     room: &mut [u8],
     block: &mut [u8],
 ) -> u64 {
-    let call = q.call;
     match call {
-        1..=4 => operation(q, list, entries, room, block),
-        5..=8 => conversation(q, list, entries, block),
-        9..=18 => reader(q, list, entries, room, block),
-        20..=28 => writer(q, list, room, block),
-        30..=33 => test(q, list, block),
+        1..=4 => operation(call, x, major, minor, a, entries, room, block),
+        5..=8 => conversation(call, major, minor, a, b, entries, block),
+        9..=18 => reader(call, a, entries, room, block),
+        20..=28 => writer(call, x, a, b, room, block),
+        30..=33 => test(call, x, a, b, block),
         _ => NO_CALL,
     }
 }

@@ -1,9 +1,9 @@
--- `replay::lent::is_kept` is safe and ends. Nothing has to hold from turn to turn.
+-- `by_number::lent::is_kept` is safe and ends. Nothing has to hold from turn to turn.
 use Prim.Native.Nat.{_-_}
 use lib.ListN.{length}
 use borrow.Author.Needs.{needs}
-use Rattle.replay.proofs.lent.is_kept.Statement.{statement}
-use Rattle.replay.proofs.lent.is_kept.Tie as tie
+use Rattle.by_number.proofs.lent.is_kept.Statement.{statement}
+use Rattle.by_number.proofs.lent.is_kept.Tie as tie
 
 abbrev Inv-loop : tie.InvT-loop
 Inv-loop s from i₀ i = Unit {0}
@@ -17,6 +17,7 @@ is-kept-spec =
     (tie.spec
     Inv-loop
     μ-loop
+    (λ c. search needs)
     (λ c. search needs)
     (λ c. search needs)
     (λ c κs. search needs)
