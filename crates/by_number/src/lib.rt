@@ -11,17 +11,20 @@ pub const NO_CALL: u64 = 99;
 
 pub const ENTRY_VIEW: u64 = 32;
 
-fn operation(
-    call: u64,
-    op: u64,
-    major: u16,
-    minor: u8,
-    a: &[u8],
-    entries: &mut [u8],
-    room: &mut [u8],
-    block: &mut [u8],
-) -> u64 {
-    match call {
+// `operation` is also the number that a call takes.
+pub struct Call {
+    pub number: u64,
+    pub operation: u64,
+    pub major: u16,
+    pub minor: u8,
+}
+
+fn operation(c: Call, a: &[u8], entries: &mut [u8], room: &mut [u8], block: &mut [u8]) -> u64 {
+    let number = c.number;
+    let op = c.operation;
+    let major = c.major;
+    let minor = c.minor;
+    match number {
         1 => lintelow::lintelow_read_op_args(op, major, minor, a, entries, room, block),
         2 => lintelow::lintelow_skip_op_args(op, major, minor, a, block),
         3 => lintelow::lintelow_read_daemon_result(op, major, minor, a, entries, room, block),
@@ -29,20 +32,13 @@ fn operation(
     }
 }
 
-fn conversation(
-    call: u64,
-    major: u16,
-    minor: u8,
-    a: &[u8],
-    b: &[u8],
-    entries: &mut [u8],
-    block: &mut [u8],
-) -> u64 {
-    match call {
+fn conversation(c: Call, a: &[u8], b: &[u8], entries: &mut [u8], block: &mut [u8]) -> u64 {
+    let number = c.number;
+    match number {
         5 => lintelow::lintelow_read_stderr_loop(a, block),
         6 => lintelow::lintelow_read_stderr_with_error(a, entries, block),
         7 => lintelow::lintelow_parse_handshake(a, b, entries, block),
-        _ => lintelow::lintelow_parse_daemon_handshake(major, minor, b, entries, block),
+        _ => lintelow::lintelow_parse_daemon_handshake(c.major, c.minor, b, entries, block),
     }
 }
 
@@ -99,24 +95,21 @@ fn test(call: u64, x: u64, a: &[u8], b: &[u8], block: &mut [u8]) -> u64 {
     }
 }
 
-// x is the operation, or the number that a call takes.
 pub fn answer(
-    call: u64,
-    x: u64,
-    major: u16,
-    minor: u8,
+    c: Call,
     a: &[u8],
     b: &[u8],
     entries: &mut [u8],
     room: &mut [u8],
     block: &mut [u8],
 ) -> u64 {
-    match call {
-        1..=4 => operation(call, x, major, minor, a, entries, room, block),
-        5..=8 => conversation(call, major, minor, a, b, entries, block),
-        9..=18 => reader(call, a, entries, room, block),
-        20..=28 => writer(call, x, a, b, room, block),
-        30..=33 => test(call, x, a, b, block),
+    let number = c.number;
+    match number {
+        1..=4 => operation(c, a, entries, room, block),
+        5..=8 => conversation(c, a, b, entries, block),
+        9..=18 => reader(number, a, entries, room, block),
+        20..=28 => writer(number, c.operation, a, b, room, block),
+        30..=33 => test(number, c.operation, a, b, block),
         _ => NO_CALL,
     }
 }

@@ -29,11 +29,11 @@ fn put(text: &mut [u8], n: usize, words: &[u8]) -> usize {
 }
 
 // Before each but the first of a list.
-fn put_comma(text: &mut [u8], n: usize, is_first: bool) -> usize {
+fn put_between(text: &mut [u8], n: usize, b: u8, is_first: bool) -> usize {
     if is_first {
         return n;
     }
-    put_byte(text, n, b',')
+    put_byte(text, n, b)
 }
 
 fn put_number(text: &mut [u8], n: usize, x: u64) -> usize {
@@ -65,6 +65,7 @@ fn put_numbers(
     text: &mut [u8],
     n: usize,
     name: &[u8],
+    between: u8,
     call: u64,
     block: &[u8],
     from: usize,
@@ -73,7 +74,7 @@ fn put_numbers(
     let mut m = put(text, n, name);
     let mut i = from;
     while i < to {
-        m = put_comma(text, m, i == from);
+        m = put_between(text, m, between, i == from);
         m = put_number(text, m, told::number(block, shown(call, i)));
         i += 1;
     }
@@ -84,7 +85,7 @@ fn put_entries(text: &mut [u8], n: usize, entries: &[u8]) -> usize {
     let mut m = put(text, n, b" e=");
     let mut i = 0;
     while i < entries.len() / lent::ENTRY {
-        m = put_comma(text, m, i == 0);
+        m = put_between(text, m, b',', i == 0);
         m = put_number(text, m, lent::number(entries, lent::ENTRY * i));
         m = put_byte(text, m, b':');
         m = put_number(text, m, lent::number(entries, lent::ENTRY * i + 8));
@@ -114,19 +115,39 @@ fn put_hex(text: &mut [u8], n: usize, bytes: &[u8]) -> usize {
 }
 
 fn put_told(text: &mut [u8], call: u64, block: &[u8]) -> usize {
-    let mut n = put_numbers(text, 0, b"ok kind=", call, block, told::KIND, told::END);
-    n = put_numbers(text, n, b" end=", call, block, told::END, told::END2);
-    n = put_numbers(text, n, b" end2=", call, block, told::END2, told::ENTRIES);
+    let c = b',';
+    let mut n = put_numbers(text, 0, b"ok kind=", c, call, block, told::KIND, told::END);
+    n = put_numbers(text, n, b" end=", c, call, block, told::END, told::END2);
+    n = put_numbers(
+        text,
+        n,
+        b" end2=",
+        c,
+        call,
+        block,
+        told::END2,
+        told::ENTRIES,
+    );
     n = put_numbers(
         text,
         n,
         b" n=",
+        c,
         call,
         block,
         told::FIRST_NUMBER,
         told::FIRST_COUNT,
     );
-    put_numbers(text, n, b" c=", call, block, told::FIRST_COUNT, told::ZERO)
+    put_numbers(
+        text,
+        n,
+        b" c=",
+        c,
+        call,
+        block,
+        told::FIRST_COUNT,
+        told::ZERO,
+    )
 }
 
 pub fn put_fine(
@@ -147,9 +168,7 @@ pub fn put_fine(
 }
 
 pub fn put_refusal(text: &mut [u8], block: &[u8], is_kept: bool) -> usize {
-    let mut n = put_numbers(text, 0, b"no ", 0, block, told::REFUSAL, told::PLACE);
-    n = put_numbers(text, n, b" ", 0, block, told::PLACE, told::STREAM);
-    n = put_numbers(text, n, b" ", 0, block, told::STREAM, told::KIND);
+    let n = put_numbers(text, 0, b"no ", b' ', 0, block, told::REFUSAL, told::KIND);
     if is_kept {
         return n;
     }

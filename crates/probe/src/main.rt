@@ -3,10 +3,10 @@
 mod line;
 mod request;
 
+use by_number::Call;
 use by_number::lent;
 use by_number::told;
 use request::Asked;
-use request::Request;
 
 const MIB: usize = 1048576;
 
@@ -67,7 +67,7 @@ fn put_line<'a, 'b>(
 
 // One call on lent memory that holds the pattern, and its line.
 fn answer(
-    q: Request,
+    c: Call,
     a: &[u8],
     b: &[u8],
     entries: &mut [u8],
@@ -77,19 +77,8 @@ fn answer(
 ) {
     lent::fill(entries);
     lent::fill(room);
-    let call = q.call;
-    let refusal = by_number::answer(
-        call,
-        q.operation,
-        q.major,
-        q.minor,
-        a,
-        b,
-        entries,
-        room,
-        block,
-    );
-    let n = put_line(text, call, refusal, a, entries, room, block);
+    let refusal = by_number::answer(c, a, b, entries, room, block);
+    let n = put_line(text, c.number, refusal, a, entries, room, block);
     line::end(text, n);
 }
 
@@ -105,7 +94,7 @@ fn serve(
     match asked {
         Asked::For(q) => {
             answer(
-                q,
+                q.call,
                 lent::part(streams, 0, q.a),
                 lent::part(streams, q.a, q.b),
                 lent::some_slots(entries, q.slots),

@@ -1,14 +1,12 @@
 // A request: eight-byte numbers call, operation, major, minor, slots, room, length of a; a; length of b; b.
+use by_number::Call;
 use by_number::lent;
 
 const HEAD: usize = 56;
 
 // Of a and b the lengths: they stand in the streams, b behind a.
 pub struct Request {
-    pub call: u64,
-    pub operation: u64,
-    pub major: u16,
-    pub minor: u8,
+    pub call: Call,
     pub slots: usize,
     pub room: usize,
     pub a: usize,
@@ -23,10 +21,12 @@ pub enum Asked {
 
 fn of_head(head: &[u8]) -> Request {
     Request {
-        call: lent::number(head, 0),
-        operation: lent::number(head, 8),
-        major: (lent::number(head, 16) % 65536) as u16,
-        minor: (lent::number(head, 24) % 256) as u8,
+        call: Call {
+            number: lent::number(head, 0),
+            operation: lent::number(head, 8),
+            major: (lent::number(head, 16) % 65536) as u16,
+            minor: (lent::number(head, 24) % 256) as u8,
+        },
         slots: lent::number(head, 32) as usize,
         room: lent::number(head, 40) as usize,
         a: lent::number(head, 48) as usize,

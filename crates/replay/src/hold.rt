@@ -99,7 +99,8 @@ pub fn is_answer<'a, 'b>(
     room: &'a [u8],
     block: &'a [u8],
 ) -> bool {
-    let call = q.call;
+    let c = q.call;
+    let call = c.number;
     let said = list::string(list, q.said);
     let output = lent::part(room, 0, told::number(block, told::OUTPUT) as usize);
     let at = strings(

@@ -1,5 +1,6 @@
 // The list: requests one after the other, each with what the Rust answers. compare/README.md, "The list", has its form. Nothing here can fail: past the end
 // a number is 0 and a string is empty, and what was cut differs from what the library says.
+use by_number::Call;
 use by_number::lent;
 
 // Before a number of eight bytes; a smaller byte is the number itself.
@@ -7,10 +8,7 @@ const LONG: u8 = 255;
 
 // Of a, b and the answer the places.
 pub struct Request {
-    pub call: u64,
-    pub operation: u64,
-    pub major: u16,
-    pub minor: u8,
+    pub call: Call,
     pub slots: usize,
     pub room: usize,
     pub a: usize,
@@ -75,10 +73,12 @@ pub fn next(s: &[u8], at: usize) -> Request {
     let b = behind(s, a);
     let said = behind(s, b);
     Request {
-        call: number(s, at),
-        operation: number(s, operation),
-        major: (number(s, major) % 65536) as u16,
-        minor: (number(s, minor) % 256) as u8,
+        call: Call {
+            number: number(s, at),
+            operation: number(s, operation),
+            major: (number(s, major) % 65536) as u16,
+            minor: (number(s, minor) % 256) as u8,
+        },
         slots: number(s, slots) as usize,
         room: number(s, room) as usize,
         a,

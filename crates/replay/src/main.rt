@@ -53,17 +53,7 @@ fn counted(t: Tally, is_same: bool, is_refusal: bool) -> Tally {
 fn call(q: Request, list: &[u8], entries: &mut [u8], room: &mut [u8], block: &mut [u8]) -> u64 {
     let a = list::string(list, q.a);
     let b = list::string(list, q.b);
-    by_number::answer(
-        q.call,
-        q.operation,
-        q.major,
-        q.minor,
-        a,
-        b,
-        entries,
-        room,
-        block,
-    )
+    by_number::answer(q.call, a, b, entries, room, block)
 }
 
 // One call on lent memory that holds the pattern.

@@ -7,10 +7,10 @@ use Rattle.probe.proofs.line.put_numbers.Statement.{statement}
 use Rattle.probe.proofs.line.put_numbers.Tie as tie
 
 abbrev Inv-loop : tie.InvT-loop
-Inv-loop text₀ n name call block from to m₀ i₀ text m i = length text ≡ length text₀
+Inv-loop text₀ n name between call block from to m₀ i₀ text m i = length text ≡ length text₀
 
 abbrev μ-loop : tie.MeasureT-loop
-μ-loop text₀ n name call block from to m₀ i₀ text m i = to - i
+μ-loop text₀ n name between call block from to m₀ i₀ text m i = to - i
 
 pub put-numbers-spec : {M : Type 1} → statement M
 put-numbers-spec =
