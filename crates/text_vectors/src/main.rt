@@ -5,7 +5,7 @@
 // More bytes than the list has, and more octets than any vector of it.
 const LIST: usize = 16384;
 
-const OCTETS: usize = 32;
+const OCTETS: usize = 72;
 
 fn write_number(n: usize) {
     io::print_decimal(1, n as u64);

@@ -7,10 +7,10 @@ use Rattle.text_vectors.proofs.judge.Statement.{statement}
 use Rattle.text_vectors.proofs.judge.Tie as tie
 
 abbrev Inv-loop : tie.InvT-loop
-Inv-loop digits octets₀ n₀ octets n = (n ≤ 32) × (length octets ≡ 32)
+Inv-loop digits octets₀ n₀ octets n = (n ≤ 72) × (length octets ≡ 72)
 
 abbrev μ-loop : tie.MeasureT-loop
-μ-loop digits octets₀ n₀ octets n = 32 - n
+μ-loop digits octets₀ n₀ octets n = 72 - n
 
 pub judge-spec : {M : Type 1} → statement M
 judge-spec =
