@@ -1,5 +1,6 @@
 // Reads and skips the arguments and the reply of every operation number from 0 to 48 at versions 1.9 to 1.38, 0.255, 2.0 and 65535.255, over two streams:
-// one of zeros (empty strings and sets, false flags), and one whose every number is 1. Each line says from which version on the answer is what.
+// one of zeros (empty strings and sets, false flags), and one whose every number is 1. Each line says from which version on the answer is what. Then the
+// stderr loop and both handshakes, with entries in memory of numbers: each line ends with all that was lent, sevens before the call.
 use judge::Answer;
 use judge::Outcome;
 use protocol::Arguments;
@@ -213,6 +214,81 @@ fn ones(out: &mut [u8]) {
     }
 }
 
+fn numbers(x: &[u64]) {
+    let mut i = 0;
+    while i < x.len() {
+        say(b" ");
+        number(x[i]);
+        i += 1;
+    }
+}
+
+fn told(a: Answer, lent: &[u64]) {
+    let o = a.outcome;
+    let found = a.found;
+    match o {
+        Outcome::Refused {
+            which,
+            place,
+            stream,
+        } => {
+            say(b"no");
+            numbers(&[which, place as u64, stream]);
+        }
+        Outcome::Fine => {
+            say(b"ends");
+            numbers(&[a.ends as u64, a.ends2 as u64]);
+            say(b" entries");
+            numbers(&[found.entries as u64]);
+        }
+    }
+    say(b" lent");
+    numbers(lent);
+    say(b"\n");
+}
+
+fn stopped(s: &[u8]) {
+    told(stderr::read_stderr_loop(s), &[]);
+    let mut few = [7u64; 4];
+    let a = stderr::read_stderr_with_error(s, &mut few);
+    told(a, &few);
+    let mut entries = [7u64; 8];
+    let a = stderr::read_stderr_with_error(s, &mut entries);
+    told(a, &entries);
+}
+
+fn greeted(client: &[u8], daemon: &[u8]) {
+    let mut few = [7u64; 4];
+    let a = handshake::parse_handshake(client, daemon, &mut few);
+    told(a, &few);
+    let mut entries = [7u64; 8];
+    let a = handshake::parse_handshake(client, daemon, &mut entries);
+    told(a, &entries);
+    let mut heard = [7u64; 8];
+    let a = handshake::parse_daemon_handshake(1, 38, daemon, &mut heard);
+    told(a, &heard);
+}
+
+// A message and the end; an error with a place in a file; one that is cut in the length of its text; version 1.38 with a feature of each side, and the
+// same where the daemon's last number is another.
+fn conversations() {
+    stopped(b"gmlo\0\0\0\0\x04\0\0\0\0\0\0\0damp\0\0\0\0stla\0\0\0\0");
+    stopped(
+        b"ptxc\0\0\0\0\x05\0\0\0\0\0\0\0Error\0\0\0\x01\0\0\0\0\0\0\0\0\0\0\0\0\0\0\0\x04\0\0\0\0\0\0\0damp\0\0\0\0\x01\0\0\0\0\0\0\0\x08\0\0\0\0\0\0\0silo.nix\x03\0\0\0\0\0\0\0\x09\0\0\0\0\0\0\0",
+    );
+    stopped(b"ptxc\0\0\0\0\x05\0\0\0\0\0\0\0Error\0\0\0\x01\0\0\0\0\0\0\0\0\0\0\0\0\0\0\0\x04\0\0");
+    let client =
+        b"cxin\0\0\0\0&\x01\0\0\0\0\0\0\x01\0\0\0\0\0\0\0\x03\0\0\0\0\0\0\0bin\0\0\0\0\0\0\0\0\0\0\0\0\0\0\0\0\0\0\0\0\0";
+    greeted(
+        client,
+        b"oixd\0\0\0\0&\x01\0\0\0\0\0\0\x01\0\0\0\0\0\0\0\x04\0\0\0\0\0\0\0silo\0\0\0\0\x04\0\0\0\0\0\0\02.26\0\0\0\0\x01\0\0\0\0\0\0\0stla\0\0\0\0",
+    );
+    greeted(
+        client,
+        b"oixd\0\0\0\0&\x01\0\0\0\0\0\0\x01\0\0\0\0\0\0\0\x04\0\0\0\0\0\0\0silo\0\0\0\0\x04\0\0\0\0\0\0\02.26\0\0\0\0\x01\0\0\0\0\0\0\0gmlo\0\0\0\0",
+    );
+}
+
 fn main() {
     say(b"zeros\n");
     let mut s = [0u8; 256];
@@ -220,4 +296,6 @@ fn main() {
     say(b"ones\n");
     ones(&mut s);
     operations(&s);
+    say(b"conversations\n");
+    conversations();
 }
