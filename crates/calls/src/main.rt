@@ -238,6 +238,10 @@ fn told(a: Answer, lent: &[u64]) {
         Outcome::Fine => {
             say(b"ends");
             numbers(&[a.ends as u64, a.ends2 as u64]);
+            say(b" numbers");
+            numbers(&found.numbers);
+            say(b" counts");
+            numbers(&found.counts);
             say(b" entries");
             numbers(&[found.entries as u64]);
         }
