@@ -1,13 +1,17 @@
-//! `bench SAMPLES` reads and skips the same streams by Lintelow and by nix-wire, in this one process, and writes a line of figures for each case:
-//! fields are apart by tabs, and ../run, which knows their order, makes tables of them.
+//! `bench SAMPLES FOLDER` reads and skips the same streams, and the calls of the recordings in the folder, by Lintelow and by nix-wire, in this one
+//! process, and writes a line of figures for each case: fields are apart by tabs, and ../run, which knows their order, makes tables of them.
+mod calls;
 mod clock;
 mod measure;
 mod memory;
 mod ours;
+mod poll;
 mod streams;
 mod theirs;
 
+use calls::{recorded, short};
 use ours::Ours;
+use std::path::Path;
 use streams::{Shape, Stream};
 use theirs::Theirs;
 
@@ -37,10 +41,8 @@ trait Side {
     fn needs_preparing(&self) -> bool;
     /// What comes before a pass and is not timed: room that is cleared, a reader that stands at the start.
     fn prepare(&mut self);
-    /// All replies of the stream.
+    /// All replies of the stream, or all calls.
     fn pass(&mut self);
-    /// Where the last pass ended.
-    fn end(&self) -> usize;
 }
 
 /// QueryAllValidPaths replies with a set, NarFromPath with framed data.
@@ -61,19 +63,19 @@ fn case(table: &str, stream: &Stream, through: Through, call: Call, samples: usi
     if call == Call::Read {
         assert!(ours.contents() == theirs.contents(), "both read the same");
     }
-    let figures = measure::measure(ours, theirs, samples);
-    let pieces = stream.pieces() as f64;
+    let times = measure::measure(&mut [ours, theirs], samples);
+    let (ratio, each) = (times.ratio(1, 0), |side| times.median(side) / stream.pieces() as f64);
     let fields = [
         table.to_string(),
         if stream.shape == Shape::Set { "set" } else { "framed" }.to_string(),
         if call == Call::Read { "read" } else { "skip" }.to_string(),
         stream.size.to_string(),
         stream.pieces().to_string(),
-        (figures.ours / pieces).to_string(),
-        (figures.theirs / pieces).to_string(),
-        figures.ratio.to_string(),
-        figures.low.to_string(),
-        figures.high.to_string(),
+        each(0).to_string(),
+        each(1).to_string(),
+        ratio.median.to_string(),
+        ratio.low.to_string(),
+        ratio.high.to_string(),
         our_memory.number.to_string(),
         ours.room().to_string(),
         their_memory.number.to_string(),
@@ -88,15 +90,19 @@ fn both_calls(table: &str, stream: &Stream, through: Through, samples: usize) {
     }
 }
 
-fn main() {
-    let words: Vec<String> = std::env::args().collect();
-    let samples = match words.get(1).map(|word| word.parse()) {
-        Some(Ok(samples)) if words.len() == 2 && samples > 0 => samples,
-        _ => {
-            eprintln!("usage: bench SAMPLES");
-            std::process::exit(2)
+fn of_calls(recordings: &Path, samples: usize) {
+    let recordings = recorded::all(recordings).unwrap_or_else(|why| stop(&format!("the recordings can't be read: {why}")));
+    for calls in recorded::rows(&recordings) {
+        calls::row("sessions", &calls, samples);
+    }
+    for stream in short::streams() {
+        for calls in stream.rows() {
+            calls::row("short", &calls, samples);
         }
-    };
+    }
+}
+
+fn of_streams(samples: usize) {
     for (table, through) in [("reply", Through::Reply), ("wire", Through::Wire)] {
         for (shape, size) in STRINGS.map(|size| (Shape::Set, size)).into_iter().chain(CHUNKS.map(|size| (Shape::Framed, size))) {
             both_calls(table, &Stream::of_one_reply(shape, size, CACHED), through, samples);
@@ -108,4 +114,17 @@ fn main() {
     for size in [8, 60] {
         both_calls("single", &Stream::new(Shape::Set, size, 1, CACHED / 100), Through::Reply, samples);
     }
+}
+
+fn stop(why: &str) -> ! {
+    eprintln!("{why}");
+    std::process::exit(2)
+}
+
+fn main() {
+    let words: Vec<String> = std::env::args().collect();
+    let [_, samples, recordings] = &words[..] else { stop("usage: bench SAMPLES FOLDER") };
+    let samples = samples.parse().ok().filter(|&samples| samples > 0).unwrap_or_else(|| stop("the number of samples must be 1 or more"));
+    of_calls(Path::new(recordings), samples);
+    of_streams(samples);
 }

@@ -1,49 +1,32 @@
-//! Samples of both sides, taken by turns, and what they come to.
+//! Samples of all sides, taken by turns, and what they come to.
 use crate::clock::now;
 use crate::Side;
 use std::time::Duration;
 
 /// What a sample should take at least, timed parts alone.
 const ENOUGH: Duration = Duration::from_millis(4);
+/// How often the clock is read for nothing, to know what that takes.
+const TRIES: usize = 1_001;
 
-/// Times of a pass in nanoseconds, medians; how often theirs takes ours, by these and, pair by pair, the 10th and the 90th percentile.
-pub struct Figures {
-    pub ours: f64,
-    pub theirs: f64,
-    pub ratio: f64,
+/// Times of a pass in nanoseconds: of each side as many as there are samples.
+pub struct Times(Vec<Vec<f64>>);
+
+/// How often one side's time holds another's: by the medians, and sample by sample the 10th and the 90th percentile.
+pub struct Ratio {
+    pub median: f64,
     pub low: f64,
     pub high: f64,
 }
 
-/// The time of so many passes. What prepares a pass is not in it.
-fn sample(side: &mut dyn Side, passes: u32) -> Duration {
-    if side.needs_preparing() {
-        return (0..passes).map(|_| once(side)).sum();
+impl Times {
+    pub fn median(&self, side: usize) -> f64 {
+        percentile(self.0[side].clone(), 0.5)
     }
-    let start = now();
-    for _ in 0..passes {
-        side.pass();
+
+    pub fn ratio(&self, side: usize, other: usize) -> Ratio {
+        let each: Vec<f64> = self.0[side].iter().zip(&self.0[other]).map(|(time, other)| time / other).collect();
+        Ratio { median: self.median(side) / self.median(other), low: percentile(each.clone(), 0.1), high: percentile(each, 0.9) }
     }
-    now() - start
-}
-
-fn once(side: &mut dyn Side) -> Duration {
-    side.prepare();
-    let start = now();
-    side.pass();
-    now() - start
-}
-
-fn passes(side: &mut dyn Side) -> u32 {
-    let mut passes = 1;
-    while sample(side, passes) < ENOUGH {
-        passes *= 2;
-    }
-    passes
-}
-
-fn nanoseconds(side: &mut dyn Side, passes: u32) -> f64 {
-    sample(side, passes).as_nanos() as f64 / f64::from(passes)
 }
 
 fn percentile(mut values: Vec<f64>, part: f64) -> f64 {
@@ -53,21 +36,58 @@ fn percentile(mut values: Vec<f64>, part: f64) -> f64 {
     below + (above - below) * place.fract()
 }
 
-pub fn measure(ours: &mut dyn Side, theirs: &mut dyn Side, samples: usize) -> Figures {
-    let (our_passes, their_passes) = (passes(ours), passes(theirs));
-    let mut pairs = Vec::new();
-    for index in 0..samples {
-        // Either side comes first as often as the other.
-        pairs.push(if index % 2 == 0 {
-            let first = nanoseconds(ours, our_passes);
-            (first, nanoseconds(theirs, their_passes))
-        } else {
-            let first = nanoseconds(theirs, their_passes);
-            (nanoseconds(ours, our_passes), first)
-        });
+/// A clock that knows what reading it takes: a short pass would seem longer by that.
+struct Watch {
+    own: Duration,
+}
+
+impl Watch {
+    fn new() -> Watch {
+        let plain = Watch { own: Duration::ZERO };
+        let mut tries: Vec<Duration> = (0..TRIES).map(|_| plain.time(|| ())).collect();
+        tries.sort();
+        Watch { own: tries[TRIES / 2] }
     }
-    let all = |f: fn(&(f64, f64)) -> f64| pairs.iter().map(f).collect::<Vec<f64>>();
-    let (ours, theirs) = (percentile(all(|p| p.0), 0.5), percentile(all(|p| p.1), 0.5));
-    let ratios = all(|p| p.1 / p.0);
-    Figures { ours, theirs, ratio: theirs / ours, low: percentile(ratios.clone(), 0.1), high: percentile(ratios, 0.9) }
+
+    fn time(&self, f: impl FnOnce()) -> Duration {
+        let start = now();
+        f();
+        (now() - start).saturating_sub(self.own)
+    }
+
+    /// The time of so many passes. What prepares a pass is not in it.
+    fn sample(&self, side: &mut dyn Side, passes: u32) -> Duration {
+        if !side.needs_preparing() {
+            return self.time(|| (0..passes).for_each(|_| side.pass()));
+        }
+        let once = |_| {
+            side.prepare();
+            self.time(|| side.pass())
+        };
+        (0..passes).map(once).sum()
+    }
+
+    /// How many passes a sample has to have.
+    fn passes(&self, side: &mut dyn Side) -> u32 {
+        let mut passes = 1;
+        while self.sample(side, passes) < ENOUGH {
+            passes *= 2;
+        }
+        passes
+    }
+}
+
+pub fn measure(sides: &mut [&mut dyn Side], samples: usize) -> Times {
+    let watch = Watch::new();
+    let passes: Vec<u32> = sides.iter_mut().map(|side| watch.passes(*side)).collect();
+    let mut times = vec![Vec::new(); sides.len()];
+    for index in 0..samples {
+        for turn in 0..sides.len() {
+            // Each side comes first as often as the others.
+            let side = (index + turn) % sides.len();
+            let time = watch.sample(sides[side], passes[side]);
+            times[side].push(time.as_nanos() as f64 / f64::from(passes[side]));
+        }
+    }
+    Times(times)
 }

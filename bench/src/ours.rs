@@ -27,6 +27,11 @@ impl<'s> Ours<'s> {
         self.entries.len() + self.payload.len()
     }
 
+    /// Where the last pass ended.
+    pub fn end(&self) -> usize {
+        self.end
+    }
+
     /// What was read, from the room that was lent for it.
     pub fn contents(&self) -> Vec<Vec<u8>> {
         if self.stream.shape == Shape::Framed {
@@ -72,9 +77,5 @@ impl Side for Ours<'_> {
             at += black_box(answer).end;
         }
         self.end = at;
-    }
-
-    fn end(&self) -> usize {
-        self.end
     }
 }

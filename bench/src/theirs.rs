@@ -1,14 +1,14 @@
-//! nix-wire's side: its own reader in memory, which never waits, so that one poll ends each future.
+//! nix-wire's side: its own reader in memory.
+use crate::poll::good;
 use crate::streams::{Shape, Stream};
 use crate::{operation, Call, Side, Through};
-use nix_wire::answer::{over, position, run, Reader};
+use nix_wire::answer::{over, position, Reader};
 use nix_wire::handshake::ProtocolVersion;
 use nix_wire::ops::Op;
 use nix_wire::protocol;
 use nix_wire::script::ResultData;
-use std::fmt::Debug;
-use std::future::Future;
 use std::hint::black_box;
+use std::pin::pin;
 
 const VERSION: ProtocolVersion = ProtocolVersion::new(crate::VERSION.0, crate::VERSION.1);
 
@@ -27,13 +27,14 @@ pub struct Theirs<'s> {
     answers: Vec<Answer>,
 }
 
-fn good<T, E: Debug>(f: impl Future<Output = Result<T, E>>) -> T {
-    run(f).expect("a good stream")
-}
-
 impl<'s> Theirs<'s> {
     pub fn new(stream: &'s Stream, through: Through, call: Call) -> Theirs<'s> {
         Theirs { stream, through, call, reader: over(&[]), answers: Vec::with_capacity(stream.replies) }
+    }
+
+    /// Where the last pass ended.
+    pub fn end(&self) -> usize {
+        position(&self.reader)
     }
 
     /// What was read, each string or all chunks of a reply.
@@ -50,17 +51,17 @@ impl<'s> Theirs<'s> {
 
 fn read(shape: Shape, through: Through, op: Op, r: &mut Reader) -> Answer {
     match (through, shape) {
-        (Through::Reply, _) => Answer::Reply(good(protocol::read_daemon_result(op, VERSION, r))),
-        (Through::Wire, Shape::Set) => Answer::Strings(good(r.read_string_set())),
-        (Through::Wire, Shape::Framed) => Answer::Bytes(good(r.read_framed())),
+        (Through::Reply, _) => Answer::Reply(good(pin!(protocol::read_daemon_result(op, VERSION, r)))),
+        (Through::Wire, Shape::Set) => Answer::Strings(good(pin!(r.read_string_set()))),
+        (Through::Wire, Shape::Framed) => Answer::Bytes(good(pin!(r.read_framed()))),
     }
 }
 
 fn skip(shape: Shape, through: Through, op: Op, r: &mut Reader) {
     match (through, shape) {
-        (Through::Reply, _) => good(protocol::skip_daemon_result(op, VERSION, r)),
-        (Through::Wire, Shape::Set) => _ = black_box(good(r.skip_string_set())),
-        (Through::Wire, Shape::Framed) => _ = black_box(good(r.skip_framed())),
+        (Through::Reply, _) => good(pin!(protocol::skip_daemon_result(op, VERSION, r))),
+        (Through::Wire, Shape::Set) => _ = black_box(good(pin!(r.skip_string_set()))),
+        (Through::Wire, Shape::Framed) => _ = black_box(good(pin!(r.skip_framed()))),
     }
 }
 
@@ -82,9 +83,5 @@ impl Side for Theirs<'_> {
                 Call::Skip => skip(self.stream.shape, self.through, op, &mut self.reader),
             }
         }
-    }
-
-    fn end(&self) -> usize {
-        position(&self.reader)
     }
 }

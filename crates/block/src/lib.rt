@@ -77,7 +77,7 @@ pub fn put(block: &mut [u8], a: Answer) -> u64
     ensures block { λ r. ⌜ now (block .exit) ≡ blockAfter (now (block .entry)) a ⌝ }
 {
     if block.len() < BLOCK {
-        return output::OUTPUT_FULL;
+        return layouts::OUTPUT_FULL;
     }
     let ns = numbers(a);
     put_numbers(block, &ns);

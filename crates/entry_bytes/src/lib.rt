@@ -27,7 +27,7 @@ pub fn entry_fault(bytes: &[u8], entries: &[u8], i: usize) -> Fault
 {
     if entries.len() / 16 <= i {
         return Fault::Refused {
-            which: views::NO_SUCH_ENTRY,
+            which: layouts::NO_SUCH_ENTRY,
             place: i,
         };
     }
@@ -36,13 +36,13 @@ pub fn entry_fault(bytes: &[u8], entries: &[u8], i: usize) -> Fault
     let n = bytes.len() as u64;
     if n < start {
         return Fault::Refused {
-            which: views::BAD_ENTRY,
+            which: layouts::BAD_ENTRY,
             place: i,
         };
     }
     if n - start < len {
         return Fault::Refused {
-            which: views::BAD_ENTRY,
+            which: layouts::BAD_ENTRY,
             place: i,
         };
     }

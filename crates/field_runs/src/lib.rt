@@ -1,119 +1,21 @@
 // The runs of fields of every layout, packed, and read by place. Past its end the table reads as the end of a layout.
+mod codes;
+
 ghost use mathlib.Core.Path.{_≡_};
-ghost use lib.ListN.{getD};
-ghost use Rattle.table.specs.Packed.{runList};
-ghost use Rattle.table.specs.Table.{runAt};
+ghost use Rattle.table.specs.Table.{runAt, runOf};
 use table::Run;
 
-// A run as a number: its kind, 4 times its slot, 256 times the place of its first field.
-fn run_code(i: usize) -> u64
-    ensures { λ r. ⌜ r ≡ getD runList i 0 ⌝ }
+// A run as a number: its kind, 4 times its slot, 256 times the place of its first field. For the shut name and the number see `fields`.
+pub fn packed(i: usize) -> u64
+    ensures { λ r. ⌜ runOf r ≡ runAt i ⌝ }
 {
-    match i {
-        0 => 34817,
-        1 => 0,
-        2 => 31745,
-        3 => 0,
-        4 => 27905,
-        5 => 0,
-        6 => 21505,
-        7 => 0,
-        8 => 12801,
-        9 => 0,
-        10 => 7169,
-        11 => 0,
-        12 => 27393,
-        13 => 0,
-        14 => 29441,
-        15 => 0,
-        16 => 31489,
-        17 => 0,
-        18 => 35329,
-        19 => 0,
-        20 => 3329,
-        21 => 0,
-        22 => 38913,
-        23 => 0,
-        24 => 1,
-        25 => 0,
-        26 => 3585,
-        27 => 0,
-        28 => 17409,
-        29 => 0,
-        30 => 19457,
-        31 => 0,
-        32 => 30465,
-        33 => 0,
-        34 => 26226,
-        35 => 0,
-        36 => 15218,
-        37 => 0,
-        38 => 38401,
-        39 => 0,
-        40 => 23143,
-        41 => 0,
-        42 => 32257,
-        43 => 0,
-        44 => 36097,
-        45 => 0,
-        46 => 33025,
-        47 => 0,
-        48 => 18689,
-        49 => 0,
-        50 => 10241,
-        51 => 0,
-        52 => 27649,
-        53 => 0,
-        54 => 36865,
-        55 => 0,
-        56 => 39425,
-        57 => 0,
-        58 => 24577,
-        59 => 0,
-        60 => 28417,
-        61 => 0,
-        62 => 33793,
-        63 => 0,
-        64 => 9987,
-        65 => 0,
-        66 => 34561,
-        67 => 0,
-        68 => 37633,
-        69 => 0,
-        70 => 37889,
-        71 => 0,
-        72 => 18945,
-        73 => 0,
-        74 => 39937,
-        75 => 41219,
-        76 => 18945,
-        77 => 0,
-        78 => 18689,
-        79 => 41219,
-        80 => 0,
-        81 => 41729,
-        82 => 43010,
-        83 => 0,
-        84 => 25345,
-        85 => 0,
-        86 => 44033,
-        87 => 0,
-        88 => 44801,
-        89 => 0,
-        90 => 45313,
-        91 => 0,
-        92 => 45825,
-        93 => 0,
-        94 => 46593,
-        95 => 0,
-        _ => 0,
-    }
+    codes::run_code(i)
 }
 
 pub fn run_at(i: usize) -> Run
     ensures { λ r. ⌜ r ≡ runAt i ⌝ }
 {
-    let x = run_code(i);
+    let x = codes::run_code(i);
     Run {
         kind: (x % 4) as u8,
         slot: (x / 4 % 64) as u8,

@@ -1,42 +1,19 @@
--- What the next part that is found says is still to come, and what it is to write it.
-use Prim.Native.Nat.{ℕ, _+_, _<_, _≤_}
+-- What it is to write into lent room, and what is still to be written of the pieces that are to come.
+use Prim.Native.Nat.{ℕ, _≤_}
 use mathlib.Core.Path.{_≡_}
-use mathlib.Core.List.{List, [], _∷_, _++_}
-use lib.ListN.{length, take, drop}
+use mathlib.Core.List.{List, _++_}
+use lib.ListN.{length}
 use lib.Seq.{sets}
+use Rattle.layouts.specs.Shape.{Tree}
+use Rattle.layouts.specs.Pieces.{Pieces, fault, run}
 use Rattle.layouts.specs.Judge.{entriesOf, payloadOf}
-use Rattle.walk.specs.Walk.{rest, fuel}
-use Rattle.walk.specs.declared.Flow.{Flow}
-use Rattle.walk.specs.declared.Walk.{Walk}
-use Rattle.walk.specs.declared.Todo.the-variants.{Strings}
-use Rattle.fill.specs.declared.Found.{Found}
-use Rattle.fill.specs.declared.Found.the-variants.{Part, Over}
+use Rattle.output.specs.Numbers.{bytesOf}
 use Rattle.fill.specs.declared.Row.{Row}
-use Rattle.fill.specs.declared.InRow.{InRow}
-use Rattle.fill.specs.declared.InRow.the-variants as R
-
-abbrev pub keptOf : List ℕ → Found → List ℕ
-keptOf s (Part start len w) = start ∷ len ∷ entriesOf (rest s w)
-keptOf s Over = []
-
-abbrev pub chunkedOf : List ℕ → Found → List ℕ
-chunkedOf s (Part start len w) = take len (drop start s) ++ payloadOf s (rest s w)
-chunkedOf s Over = []
-
--- the measure of the walk falls, and the part lies within the stream
-abbrev pub FoundFalls : List ℕ → ℕ → Found → Type 0
-FoundFalls s f (Part start len w) = (fuel s w < f) × (start + len ≤ length s)
-FoundFalls s f Over = Unit {0}
-
--- a walk before what is left of a row
-abbrev pub rowAt : (role : ℕ) → Flow → Row → Walk
-rowAt role fl x = record { at = x .at; todo = Strings role (x .pend) (x .extra) (x .left); flow = fl }
-
--- the next string of a row whose strings are kept
-abbrev pub InRowOf : List ℕ → Row → InRow → Type 0
-InRowOf s x (R.Part start len y) =
-    ((role : ℕ) (fl : Flow) → 2 ≤ role → entriesOf (rest s (rowAt role fl x)) ≡ start ∷ len ∷ entriesOf (rest s (rowAt role fl y))) × (x .at < y .at) × (y .at ≤ length s)
-InRowOf s x R.Over = Unit {0}
+use Rattle.fill.specs.declared.Row.the-variants as R
+use Rattle.fill.specs.declared.Copied.{Copied}
+use Rattle.fill.specs.declared.Copied.the-variants as C
+use Rattle.fill.specs.declared.Filled.{Filled}
+use Rattle.fill.specs.declared.Filled.the-variants as F
 
 -- vs stand in the room from a place on, and what is to follow them goes where they end; past the end of the room, nowhere
 pub record Put (lent : List ℕ) (at : ℕ) (vs out : List ℕ) (next : ℕ) : Type 0 where
@@ -47,3 +24,60 @@ pub record Put (lent : List ℕ) (at : ℕ) (vs out : List ℕ) (next : ℕ) : T
 pub record Filling (lent : List ℕ) (from : ℕ) (es₀ out : List ℕ) (n : ℕ) (es : List ℕ) : Type 0 where
   pub size : length out ≡ length lent
   pub same : (ws : List ℕ) → sets out n (es ++ ws) ≡ sets lent from (es₀ ++ ws)
+
+-- the three rooms: p is to come where they stand now, on the way from where they stood with p₀ to come
+pub record Rooms : Type 0 where
+  pub words : List ℕ
+  pub word : ℕ
+  pub bytes : List ℕ
+  pub byte : ℕ
+  pub payload : List ℕ
+  pub place : ℕ
+
+pub record Fills (s : List ℕ) (x₀ : Rooms) (p₀ : Pieces) (x : Rooms) (p : Pieces) : Type 0 where
+  pub words : Filling (x₀ .words) (x₀ .word) (entriesOf p₀) (x .words) (x .word) (entriesOf p)
+  pub bytes : Filling (x₀ .bytes) (x₀ .byte) (bytesOf (entriesOf p₀)) (x .bytes) (x .byte) (bytesOf (entriesOf p))
+  pub payload : Filling (x₀ .payload) (x₀ .place) (payloadOf s p₀) (x .payload) (x .place) (payloadOf s p)
+
+abbrev pub rooms : (words : List ℕ) → ℕ → (bytes : List ℕ) → ℕ → (payload : List ℕ) → ℕ → Rooms
+rooms ws w bs b ps p = record { words = ws; word = w; bytes = bs; byte = b; payload = ps; place = p }
+
+-- ---- strings of a row; chunks; a field that is filled in. Where they do not end, nothing is to come
+abbrev pub nothing : Pieces
+nothing = fault 0 0
+
+abbrev pub rowRooms : (words bytes payload : List ℕ) → ℕ → Row → Rooms
+rowRooms ws bs ps p (R.Past at w b) = rooms ws w bs b ps p
+rowRooms ws bs ps p (R.Over w b) = rooms ws w bs b ps p
+
+abbrev pub afterRow : List ℕ → (Unit {0} → Tree) → Row → Pieces
+afterRow s k (R.Past at w b) = run (k tt) s at
+afterRow s k (R.Over w b) = nothing
+
+abbrev pub RowFrom : (at : ℕ) → Row → Type 0
+RowFrom from (R.Past at w b) = from ≤ at
+RowFrom from (R.Over w b) = Unit {0}
+
+abbrev pub copiedRooms : (words : List ℕ) → ℕ → (bytes : List ℕ) → ℕ → (payload : List ℕ) → Copied → Rooms
+copiedRooms ws w bs b ps (C.Past at p) = rooms ws w bs b ps p
+copiedRooms ws w bs b ps (C.Over p) = rooms ws w bs b ps p
+
+abbrev pub afterCopied : List ℕ → (Unit {0} → Tree) → Copied → Pieces
+afterCopied s k (C.Past at p) = run (k tt) s at
+afterCopied s k (C.Over p) = nothing
+
+abbrev pub CopiedFrom : (at : ℕ) → Copied → Type 0
+CopiedFrom from (C.Past at p) = from ≤ at
+CopiedFrom from (C.Over p) = Unit {0}
+
+abbrev pub filledRooms : (words bytes payload : List ℕ) → Filled → Rooms
+filledRooms ws bs ps (F.Past at w b p) = rooms ws w bs b ps p
+filledRooms ws bs ps (F.Over w b p) = rooms ws w bs b ps p
+
+abbrev pub afterFilled : List ℕ → (Unit {0} → Tree) → Filled → Pieces
+afterFilled s k (F.Past at w b p) = run (k tt) s at
+afterFilled s k (F.Over w b p) = nothing
+
+abbrev pub FilledFrom : (at : ℕ) → Filled → Type 0
+FilledFrom from (F.Past at w b p) = from ≤ at
+FilledFrom from (F.Over w b p) = Unit {0}

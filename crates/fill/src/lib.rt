@@ -1,201 +1,65 @@
-// Filling: what the pieces of a layout report goes into lent memory, the entries and the payload. No text is looked at: what is filled in was judged before.
-// What lies past the end of the room falls away, so that no call asks for anything.
+// Filling: what the pieces of a layout report goes into lent memory, the entries and the payload, in one fold over items. No text is looked at: what is filled
+// in was judged before. What lies past the end of a room falls away, so that no call asks for anything; who wants entries as numbers alone, or as bytes alone,
+// lends an empty room for the others.
 ghost use mathlib.Core.Path.{_≡_};
-ghost use mathlib.Core.List.{[], _∷_};
-ghost use Prim.Native.Nat.{_+_, _≤_};
+ghost use mathlib.Core.Bool.{Bool};
+ghost use mathlib.Core.List.{List, [], _∷_};
+ghost use Prim.Native.Nat.{ℕ, _+_, _≤_, _<_};
 ghost use lib.ListN.{length, take, drop};
 ghost use lib.Seq.{sets};
-ghost use Rattle.layouts.specs.Primitive.{version};
+ghost use Rattle.layouts.specs.Shape.{Tree, kept, frames, field};
+ghost use Rattle.layouts.specs.Pieces.{run};
 ghost use Rattle.layouts.specs.Judge.{entriesOf, payloadOf};
-ghost use Rattle.walk.specs.Walk.{rest, fuel, layoutPieces};
+ghost use Rattle.table.specs.Table.{slotOf, whatOf};
+ghost use Rattle.strings.specs.Strings.{row};
+ghost use Rattle.items.specs.Items.{piecesOf};
 ghost use Rattle.output.specs.Numbers.{bytesOf};
-ghost use Rattle.fill.specs.Fill.{keptOf, chunkedOf, FoundFalls, rowAt, InRowOf, Put, Filling};
+ghost use Rattle.fill.specs.Fill.{Put, Fills, rooms, rowRooms, afterRow, RowFrom, copiedRooms, afterCopied, CopiedFrom, filledRooms, afterFilled, FilledFrom};
+use items::Layout;
+use number::Number;
+use passing::Stop;
+use pieces::Chunk;
 use pieces::Text;
 use strings::More;
-use walk::Flow;
-use walk::Step;
-use walk::Todo;
-use walk::Walk;
 
-// The next part of the stream that is to be reported, and the walk after it.
-enum Found {
-    Part {
-        start: usize,
-        len: usize,
-        next: Walk,
+// The places after the entries, in a room of numbers and in one of bytes.
+pub struct Places {
+    pub words: usize,
+    pub bytes: usize,
+}
+
+// Where a row of strings ends, with the places after its entries; or only these, where it does not end.
+enum Row {
+    Past {
+        at: usize,
+        words: usize,
+        bytes: usize,
     },
-    Over,
+    Over {
+        words: usize,
+        bytes: usize,
+    },
 }
 
-// What is left of a row of strings, from a place on.
-struct Row {
-    at: usize,
-    pend: u64,
-    extra: u64,
-    left: u64,
+// The same of framed data, with the place after its payload.
+enum Copied {
+    Past { at: usize, place: usize },
+    Over(usize),
 }
 
-// The next string of a row, and what is left after it. Where the row ends, or is refused, it is the walk that goes on.
-enum InRow {
-    Part { start: usize, len: usize, row: Row },
-    Over,
-}
-
-// A walk, and where in the room goes what it has yet to report.
-struct Filled {
-    walk: Walk,
-    place: usize,
-}
-
-// The next string that is kept, past whatever comes before it.
-fn next_kept(s: &[u8], w: Walk) -> Found
-    ensures law { λ r. ⌜ entriesOf (rest (now (s .entry)) w) ≡ keptOf (now (s .entry)) r ⌝ }
-    ensures falls { λ r. ⌜ FoundFalls (now (s .entry)) (fuel (now (s .entry)) w) r ⌝ }
-{
-    let mut v = w;
-    loop {
-        let st = walk::next(s, v);
-        match st {
-            Step::Number {
-                slot: _,
-                value: _,
-                place: _,
-                next,
-            } => {
-                v = next;
-            }
-            Step::Text {
-                role,
-                start,
-                len,
-                next,
-            } => {
-                if role < table::KEPT {
-                    v = next;
-                } else {
-                    return Found::Part { start, len, next };
-                }
-            }
-            Step::Half {
-                role: _,
-                start: _,
-                len: _,
-            } => {
-                return Found::Over;
-            }
-            Step::Chunk {
-                start: _,
-                len: _,
-                next,
-            } => {
-                v = next;
-            }
-            Step::Quiet(next) => {
-                v = next;
-            }
-            Step::Done(_) => {
-                return Found::Over;
-            }
-            Step::Refused { which: _, place: _ } => {
-                return Found::Over;
-            }
-        }
-    }
-}
-
-fn next_in_row(s: &[u8], row: Row) -> InRow
-    ensures { λ r. ⌜ InRowOf (now (s .entry)) row r ⌝ }
-{
-    let extra = row.extra;
-    let m = strings::after_next(row.pend, extra, row.left);
-    match m {
-        More::None => InRow::Over,
-        More::String { pend, left } => {
-            let t = pieces::text_at(s, row.at);
-            match t {
-                Text::Bad { which: _, place: _ } => InRow::Over,
-                Text::Half { start: _, len: _ } => InRow::Over,
-                Text::Whole { start, len, next } => {
-                    let after = Row {
-                        at: next,
-                        pend,
-                        extra,
-                        left,
-                    };
-                    InRow::Part {
-                        start,
-                        len,
-                        row: after,
-                    }
-                }
-            }
-        }
-    }
-}
-
-// The walk that stands before a row.
-fn before_row(role: u8, row: Row, flow: Flow) -> Walk
-    ensures { λ r. ⌜ r ≡ rowAt role flow row ⌝ }
-{
-    let todo = Todo::Strings {
-        role,
-        pend: row.pend,
-        extra: row.extra,
-        left: row.left,
-    };
-    Walk {
-        at: row.at,
-        todo,
-        flow,
-    }
-}
-
-// The next chunk, past whatever comes before it.
-fn next_chunk(s: &[u8], w: Walk) -> Found
-    ensures law { λ r. ⌜ payloadOf (now (s .entry)) (rest (now (s .entry)) w) ≡ chunkedOf (now (s .entry)) r ⌝ }
-    ensures falls { λ r. ⌜ FoundFalls (now (s .entry)) (fuel (now (s .entry)) w) r ⌝ }
-{
-    let mut v = w;
-    loop {
-        let st = walk::next(s, v);
-        match st {
-            Step::Number {
-                slot: _,
-                value: _,
-                place: _,
-                next,
-            } => {
-                v = next;
-            }
-            Step::Text {
-                role: _,
-                start: _,
-                len: _,
-                next,
-            } => {
-                v = next;
-            }
-            Step::Half {
-                role: _,
-                start: _,
-                len: _,
-            } => {
-                return Found::Over;
-            }
-            Step::Chunk { start, len, next } => {
-                return Found::Part { start, len, next };
-            }
-            Step::Quiet(next) => {
-                v = next;
-            }
-            Step::Done(_) => {
-                return Found::Over;
-            }
-            Step::Refused { which: _, place: _ } => {
-                return Found::Over;
-            }
-        }
-    }
+// The same of a field.
+enum Filled {
+    Past {
+        at: usize,
+        words: usize,
+        bytes: usize,
+        payload: usize,
+    },
+    Over {
+        words: usize,
+        bytes: usize,
+        payload: usize,
+    },
 }
 
 // A number into the room, and the place after it.
@@ -214,82 +78,6 @@ fn put_entry(out: &mut [u64], at: usize, start: usize, len: usize) -> usize
 {
     let second = put(out, at, start as u64);
     put(out, second, len as u64)
-}
-
-// The entries of a row of strings that are kept, in one loop: a walk of one piece a call pays for its whole state at each.
-fn fill_row(s: &[u8], walk: Walk, out: &mut [u64], place: usize) -> Filled
-    ensures law { λ r. ⌜ Filling (now (out .entry)) place (entriesOf (rest (now (s .entry)) walk)) (now (out .exit)) (r .place) (entriesOf (rest (now (s .entry)) (r .walk))) ⌝ }
-    ensures falls { λ r. ⌜ fuel (now (s .entry)) (r .walk) ≤ fuel (now (s .entry)) walk ⌝ }
-{
-    let todo = walk.todo;
-    let Todo::Strings {
-        role,
-        pend,
-        extra,
-        left,
-    } = todo
-    else {
-        return Filled { walk, place };
-    };
-    if role < table::KEPT {
-        return Filled { walk, place };
-    }
-    let flow = walk.flow;
-    let at = walk.at;
-    let mut row = Row {
-        at,
-        pend,
-        extra,
-        left,
-    };
-    let mut n = place;
-    loop {
-        let e = next_in_row(s, row);
-        match e {
-            InRow::Over => {
-                let walk = before_row(role, row, flow);
-                return Filled { walk, place: n };
-            }
-            InRow::Part {
-                start,
-                len,
-                row: after,
-            } => {
-                n = put_entry(out, n, start, len);
-                row = after;
-            }
-        }
-    }
-}
-
-// Start and length of each string that is kept, into the room from a place on, and the place after them.
-pub fn fill_entries(
-    s: &[u8],
-    at: usize,
-    major: u16,
-    minor: u8,
-    run: usize,
-    out: &mut [u64],
-    from: usize,
-) -> usize
-    ensures { λ r. ⌜ Put (now (out .entry)) from (entriesOf (layoutPieces (version major minor) run (now (s .entry)) at)) (now (out .exit)) r ⌝ }
-{
-    let mut w = walk::begin(major, minor, run, at);
-    let mut n = from;
-    loop {
-        let e = next_kept(s, w);
-        match e {
-            Found::Over => {
-                return n;
-            }
-            Found::Part { start, len, next } => {
-                let after = put_entry(out, n, start, len);
-                let row = fill_row(s, next, out, after);
-                n = row.place;
-                w = row.walk;
-            }
-        }
-    }
 }
 
 // A part of the stream into a part of the room that holds it.
@@ -319,26 +107,6 @@ fn put_chunk(s: &[u8], start: usize, len: usize, out: &mut [u8], filled: usize) 
     filled + len
 }
 
-// The chunks, joined, at the start of the room, and the place after them.
-pub fn join_payload(s: &[u8], at: usize, major: u16, minor: u8, run: usize, out: &mut [u8]) -> usize
-    ensures { λ r. ⌜ Put (now (out .entry)) 0 (payloadOf (now (s .entry)) (layoutPieces (version major minor) run (now (s .entry)) at)) (now (out .exit)) r ⌝ }
-{
-    let mut w = walk::begin(major, minor, run, at);
-    let mut filled: usize = 0;
-    loop {
-        let e = next_chunk(s, w);
-        match e {
-            Found::Over => {
-                return filled;
-            }
-            Found::Part { start, len, next } => {
-                filled = put_chunk(s, start, len, out, filled);
-                w = next;
-            }
-        }
-    }
-}
-
 // An entry as sixteen bytes.
 fn put_entry_bytes(out: &mut [u8], at: usize, start: usize, len: usize) -> usize
     ensures { λ r. ⌜ Put (now (out .entry)) at (bytesOf (start ∷ len ∷ [])) (now (out .exit)) r ⌝ }
@@ -349,78 +117,259 @@ fn put_entry_bytes(out: &mut [u8], at: usize, start: usize, len: usize) -> usize
     put_chunk(&entry, 0, 16, out, at)
 }
 
-// The same as fill_row, with entries of sixteen bytes.
-fn fill_row_bytes(s: &[u8], walk: Walk, out: &mut [u8], place: usize) -> Filled
-    ensures law { λ r. ⌜ Filling (now (out .entry)) place (bytesOf (entriesOf (rest (now (s .entry)) walk))) (now (out .exit)) (r .place) (bytesOf (entriesOf (rest (now (s .entry)) (r .walk)))) ⌝ }
-    ensures falls { λ r. ⌜ fuel (now (s .entry)) (r .walk) ≤ fuel (now (s .entry)) walk ⌝ }
+// The entries of a row of kept strings.
+fn fill_row(
+    s: &[u8],
+    from: usize,
+    pend: u64,
+    extra: u64,
+    left: u64,
+    words: &mut [u64],
+    word: usize,
+    bytes: &mut [u8],
+    byte: usize,
+) -> Row
+    ensures law { λ r. ⌜ ((payload : List ℕ) (place : ℕ) (k : Unit {0} → Tree) → Fills (now (s .entry)) (rooms (now (words .entry)) word (now (bytes .entry)) byte payload place) (run (row kept pend extra left k) (now (s .entry)) from) (rowRooms (now (words .exit)) (now (bytes .exit)) payload place r) (afterRow (now (s .entry)) k r)) ⌝ }
+    ensures on { λ r. ⌜ RowFrom from r ⌝ }
 {
-    let todo = walk.todo;
-    let Todo::Strings {
-        role,
-        pend,
-        extra,
-        left,
-    } = todo
-    else {
-        return Filled { walk, place };
-    };
-    if role < table::KEPT {
-        return Filled { walk, place };
-    }
-    let flow = walk.flow;
-    let at = walk.at;
-    let mut row = Row {
-        at,
-        pend,
-        extra,
-        left,
-    };
-    let mut n = place;
+    let mut at = from;
+    let mut p = pend;
+    let mut l = left;
+    let mut w = word;
+    let mut b = byte;
     loop {
-        let e = next_in_row(s, row);
-        match e {
-            InRow::Over => {
-                let walk = before_row(role, row, flow);
-                return Filled { walk, place: n };
+        let m = strings::after_next(p, extra, l);
+        match m {
+            More::None => {
+                return Row::Past {
+                    at,
+                    words: w,
+                    bytes: b,
+                };
             }
-            InRow::Part {
-                start,
-                len,
-                row: after,
-            } => {
-                n = put_entry_bytes(out, n, start, len);
-                row = after;
+            More::String { pend, left } => {
+                let t = pieces::text_at(s, at);
+                match t {
+                    Text::Bad { which: _, place: _ } => {
+                        return Row::Over { words: w, bytes: b };
+                    }
+                    Text::Half { start: _, len: _ } => {
+                        return Row::Over { words: w, bytes: b };
+                    }
+                    Text::Whole { start, len, next } => {
+                        w = put_entry(words, w, start, len);
+                        b = put_entry_bytes(bytes, b, start, len);
+                        at = next;
+                        p = pend;
+                        l = left;
+                    }
+                }
             }
         }
     }
 }
 
-// The same as fill_entries, with entries of sixteen bytes.
-pub fn fill_entry_bytes(
-    s: &[u8],
-    at: usize,
-    major: u16,
-    minor: u8,
-    run: usize,
-    out: &mut [u8],
-    from: usize,
-) -> usize
-    ensures { λ r. ⌜ Put (now (out .entry)) from (bytesOf (entriesOf (layoutPieces (version major minor) run (now (s .entry)) at))) (now (out .exit)) r ⌝ }
+// The payload of framed data: each chunk from where the last one stopped.
+fn copy_frames(s: &[u8], from: usize, payload: &mut [u8], place: usize) -> Copied
+    ensures law { λ r. ⌜ ((words : List ℕ) (w : ℕ) (bytes : List ℕ) (b : ℕ) (k : Unit {0} → Tree) → Fills (now (s .entry)) (rooms words w bytes b (now (payload .entry)) place) (run (frames k) (now (s .entry)) from) (copiedRooms words w bytes b (now (payload .exit)) r) (afterCopied (now (s .entry)) k r)) ⌝ }
+    ensures on { λ r. ⌜ CopiedFrom from r ⌝ }
 {
-    let mut w = walk::begin(major, minor, run, at);
-    let mut n = from;
+    let mut at = from;
+    let mut filled = place;
     loop {
-        let e = next_kept(s, w);
-        match e {
-            Found::Over => {
-                return n;
+        let m = pieces::chunk_at(s, at);
+        match m {
+            Chunk::Wrong { which: _, place: _ } => {
+                return Copied::Over(filled);
             }
-            Found::Part { start, len, next } => {
-                let after = put_entry_bytes(out, n, start, len);
-                let row = fill_row_bytes(s, next, out, after);
-                n = row.place;
-                w = row.walk;
+            Chunk::Last(next) => {
+                return Copied::Past {
+                    at: next,
+                    place: filled,
+                };
+            }
+            Chunk::Part { start, len, next } => {
+                filled = put_chunk(s, start, len, payload, filled);
+                at = next;
             }
         }
     }
+}
+
+// Strings of a field that are kept: one, or as many as its number says.
+fn fill_strings(
+    s: &[u8],
+    at: usize,
+    kind: u8,
+    words: &mut [u64],
+    word: usize,
+    bytes: &mut [u8],
+    byte: usize,
+) -> Row
+    requires { ⌜ (2 ≤ kind) × (kind ≤ 4) ⌝ }
+    ensures law { λ r. ⌜ ((payload : List ℕ) (place i : ℕ) (k : Unit {0} → Tree) → Fills (now (s .entry)) (rooms (now (words .entry)) word (now (bytes .entry)) byte payload place) (run (field (whatOf kind kept (slotOf i)) k) (now (s .entry)) at) (rowRooms (now (words .exit)) (now (bytes .exit)) payload place r) (afterRow (now (s .entry)) k r)) ⌝ }
+    ensures on { λ r. ⌜ RowFrom at r ⌝ }
+{
+    if kind == table::STR {
+        return fill_row(s, at, 1, 0, 0, words, word, bytes, byte);
+    }
+    let m = pieces::number_at(s, at);
+    match m {
+        Number::Short => Row::Over {
+            words: word,
+            bytes: byte,
+        },
+        Number::Value(n) => {
+            let body = at + 8;
+            if kind == table::SET {
+                return fill_row(s, body, 0, 0, n, words, word, bytes, byte);
+            }
+            fill_row(s, body, 0, 1, n, words, word, bytes, byte)
+        }
+    }
+}
+
+// A field of which something goes into a room.
+fn fill_field(
+    s: &[u8],
+    at: usize,
+    kind: u8,
+    words: &mut [u64],
+    word: usize,
+    bytes: &mut [u8],
+    byte: usize,
+    payload: &mut [u8],
+    place: usize,
+) -> Filled
+    requires { ⌜ (2 ≤ kind) × (kind ≤ 5) ⌝ }
+    ensures law { λ r. ⌜ ((i : ℕ) (k : Unit {0} → Tree) → Fills (now (s .entry)) (rooms (now (words .entry)) word (now (bytes .entry)) byte (now (payload .entry)) place) (run (field (whatOf kind kept (slotOf i)) k) (now (s .entry)) at) (filledRooms (now (words .exit)) (now (bytes .exit)) (now (payload .exit)) r) (afterFilled (now (s .entry)) k r)) ⌝ }
+    ensures on { λ r. ⌜ FilledFrom at r ⌝ }
+{
+    if kind == table::FRAMES {
+        let k = copy_frames(s, at, payload, place);
+        match k {
+            Copied::Over(end) => {
+                return Filled::Over {
+                    words: word,
+                    bytes: byte,
+                    payload: end,
+                };
+            }
+            Copied::Past {
+                at: next,
+                place: end,
+            } => {
+                return Filled::Past {
+                    at: next,
+                    words: word,
+                    bytes: byte,
+                    payload: end,
+                };
+            }
+        }
+    }
+    let r = fill_strings(s, at, kind, words, word, bytes, byte);
+    match r {
+        Row::Over { words: w, bytes: b } => Filled::Over {
+            words: w,
+            bytes: b,
+            payload: place,
+        },
+        Row::Past {
+            at: next,
+            words: w,
+            bytes: b,
+        } => Filled::Past {
+            at: next,
+            words: w,
+            bytes: b,
+            payload: place,
+        },
+    }
+}
+
+// What the layout reports that begins at a place of the stream: entries from a place of their rooms on, the payload at the start of its room.
+pub fn fill(
+    s: &[u8],
+    from: usize,
+    layout: Layout,
+    words: &mut [u64],
+    word: usize,
+    bytes: &mut [u8],
+    byte: usize,
+    payload: &mut [u8],
+) -> Places
+    ensures words { λ r. ⌜ Put (now (words .entry)) word (entriesOf (piecesOf layout (now (s .entry)) from)) (now (words .exit)) (r .words) ⌝ }
+    ensures bytes { λ r. ⌜ Put (now (bytes .entry)) byte (bytesOf (entriesOf (piecesOf layout (now (s .entry)) from))) (now (bytes .exit)) (r .bytes) ⌝ }
+    ensures payload { λ r. ⌜ now (payload .exit) ≡ sets (now (payload .entry)) 0 (payloadOf (now (s .entry)) (piecesOf layout (now (s .entry)) from)) ⌝ }
+{
+    let mut at = from;
+    let mut pc = table::FIELD_COUNT;
+    let mut reps: u64 = 0;
+    let mut body = table::FIELD_COUNT;
+    let mut run = layout.first;
+    let mut w = word;
+    let mut b = byte;
+    let mut p: usize = 0;
+    loop {
+        let k = passing::pass(s, at, layout, pc, reps, body, run, true);
+        match k {
+            Stop::End(_) => {
+                return Places { words: w, bytes: b };
+            }
+            Stop::Refused { which: _, place: _ } => {
+                return Places { words: w, bytes: b };
+            }
+            Stop::Stays { at: here, item } => {
+                let r = fill_field(s, here, item.kind, words, w, bytes, b, payload, p);
+                match r {
+                    Filled::Over {
+                        words: word,
+                        bytes: byte,
+                        payload: _,
+                    } => {
+                        return Places {
+                            words: word,
+                            bytes: byte,
+                        };
+                    }
+                    Filled::Past {
+                        at: next,
+                        words: word,
+                        bytes: byte,
+                        payload: place,
+                    } => {
+                        at = next;
+                        pc = item.pc;
+                        reps = item.reps;
+                        body = item.body;
+                        run = item.run;
+                        w = word;
+                        b = byte;
+                        p = place;
+                    }
+                }
+            }
+        }
+    }
+}
+
+// Start and length of each string that is kept, into a room of numbers from a place on, and the place after them.
+pub fn fill_entries(s: &[u8], at: usize, layout: Layout, out: &mut [u64], from: usize) -> usize
+    ensures { λ r. ⌜ Put (now (out .entry)) from (entriesOf (piecesOf layout (now (s .entry)) at)) (now (out .exit)) r ⌝ }
+{
+    let mut none: [u8; 0] = [];
+    let mut nothing: [u8; 0] = [];
+    let places = fill(s, at, layout, out, from, &mut none, 0, &mut nothing);
+    places.words
+}
+
+// The same as sixteen bytes each.
+pub fn fill_entry_bytes(s: &[u8], at: usize, layout: Layout, out: &mut [u8], from: usize) -> usize
+    ensures { λ r. ⌜ Put (now (out .entry)) from (bytesOf (entriesOf (piecesOf layout (now (s .entry)) at))) (now (out .exit)) r ⌝ }
+{
+    let mut none: [u64; 0] = [];
+    let mut nothing: [u8; 0] = [];
+    let places = fill(s, at, layout, &mut none, 0, out, from, &mut nothing);
+    places.bytes
 }

@@ -10,6 +10,7 @@ ghost use Rattle.layouts.specs.Handshake.{hear, heardEntries, handshake, daemon
 ghost use Rattle.judge.specs.Judged.{answerAs};
 ghost use Rattle.fill.specs.Fill.{Put};
 ghost use Rattle.turns.specs.Greeted.{clientEntries, daemonEntries};
+use items::Layout;
 use judge::Answer;
 use judge::Outcome;
 use turns::Greeted;
@@ -21,9 +22,11 @@ fn fill_client(client: &[u8], greeted: Greeted, entries: &mut [u64]) -> usize
     fill::fill_entries(
         client,
         greeted.client_at,
-        greeted.major,
-        greeted.minor,
-        table::FEATURES_CLIENT,
+        Layout {
+            major: greeted.major,
+            minor: greeted.minor,
+            first: table::FEATURES_CLIENT,
+        },
         entries,
         0,
     )
@@ -36,18 +39,22 @@ fn fill_daemon(daemon: &[u8], greeted: Greeted, entries: &mut [u64], from: usize
     let n = fill::fill_entries(
         daemon,
         greeted.features_at,
-        greeted.major,
-        greeted.minor,
-        table::FEATURES_DAEMON,
+        Layout {
+            major: greeted.major,
+            minor: greeted.minor,
+            first: table::FEATURES_DAEMON,
+        },
         entries,
         from,
     );
     fill::fill_entries(
         daemon,
         greeted.info_at,
-        greeted.major,
-        greeted.minor,
-        table::INFO,
+        Layout {
+            major: greeted.major,
+            minor: greeted.minor,
+            first: table::INFO,
+        },
         entries,
         n,
     )

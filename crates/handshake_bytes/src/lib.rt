@@ -11,6 +11,7 @@ ghost use Rattle.judge.specs.Judged.{answerAs};
 ghost use Rattle.output.specs.Numbers.{bytesOf};
 ghost use Rattle.fill.specs.Fill.{Put};
 ghost use Rattle.turns.specs.Greeted.{clientEntries, daemonEntries};
+use items::Layout;
 use judge::Answer;
 use judge::Outcome;
 use turns::Greeted;
@@ -22,9 +23,11 @@ fn fill_client(client: &[u8], greeted: Greeted, entries: &mut [u8]) -> usize
     fill::fill_entry_bytes(
         client,
         greeted.client_at,
-        greeted.major,
-        greeted.minor,
-        table::FEATURES_CLIENT,
+        Layout {
+            major: greeted.major,
+            minor: greeted.minor,
+            first: table::FEATURES_CLIENT,
+        },
         entries,
         0,
     )
@@ -37,18 +40,22 @@ fn fill_daemon(daemon: &[u8], greeted: Greeted, entries: &mut [u8], from: usize)
     let n = fill::fill_entry_bytes(
         daemon,
         greeted.features_at,
-        greeted.major,
-        greeted.minor,
-        table::FEATURES_DAEMON,
+        Layout {
+            major: greeted.major,
+            minor: greeted.minor,
+            first: table::FEATURES_DAEMON,
+        },
         entries,
         from,
     );
     fill::fill_entry_bytes(
         daemon,
         greeted.info_at,
-        greeted.major,
-        greeted.minor,
-        table::INFO,
+        Layout {
+            major: greeted.major,
+            minor: greeted.minor,
+            first: table::INFO,
+        },
         entries,
         n,
     )

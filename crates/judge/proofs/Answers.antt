@@ -1,6 +1,7 @@
 -- For a caller that has matched on an outcome: what was said; and what lent memory then is.
 use Prim.Native.Nat.{ℕ}
-use mathlib.Core.Path.{_≡_, sym, _∙_, ap}
+use mathlib.Core.Path.{_≡_, refl, sym, _∙_, ap}
+use mathlib.Core.Bool.{Bool}
 use mathlib.Core.List.{List, _++_}
 use native.Mathlib.Omega.{arith}
 use lib.ListN.{length, drop}
@@ -10,36 +11,41 @@ use Rattle.layouts.specs.Judge.{Ended, lentAfter}
 use Rattle.layouts.specs.Calls as L
 use Rattle.judge.specs.declared.Outcome.{Outcome}
 use Rattle.judge.specs.declared.Outcome.the-variants.{Fine, Refused}
-use Rattle.judge.specs.declared.Judged.{Judged}
+use Rattle.judge.specs.declared.Said.{Said}
+use Rattle.judge.specs.declared.Said.the-variants as S
 use Rattle.judge.specs.declared.Answer.{Answer}
-use Rattle.judge.specs.Judged.{judgedAs, answerAs}
+use Rattle.judge.specs.Judged.{gathered, answerOf, answerAs, endedAs}
 
 -- whether an outcome is fine
 abbrev isFine : Outcome → ℕ
 isFine Fine = 1
 isFine (Refused which place stream) = 0
 
-abbrev refusal : Outcome → Result Ended
+abbrev refusal : {A : Type 0} → Outcome → Result A
 refusal Fine = refused 0 0 0
 refusal (Refused which place stream) = refused which place stream
+
+-- an answer's end and record
+abbrev ended : Result L.Answer → Result Ended
+ended (ok a) = ok (record { found = a .found; ends = a .ends })
+ended (refused which place stream) = refused which place stream
+
+abbrev isOk : Result L.Answer → ℕ
+isOk (ok a) = 1
+isOk (refused which place stream) = 0
 
 never : {A : Type 0} (o : Outcome) (which place stream : ℕ) → o ≡ Fine → o ≡ Refused which place stream → A
 never o which place stream e f = let z : _≡_ {A = ℕ} 1 0 = sym (ap isFine e) ∙ ap isFine f in absurd (omega arith)
 
-module _ (a : Judged) where
-  pub fine-ended : (o : Result Ended) → a ≡ judgedAs o → a .outcome ≡ Fine → o ≡ ok (record { found = a .found; ends = a .ends })
-  fine-ended (ok x) e f = ap (λ (j : Judged). ok (record { found = j .found; ends = j .ends })) (sym e)
-  fine-ended (refused which place stream) e f = never (a .outcome) which place stream f (ap (λ (j : Judged). j .outcome) e)
-
-  pub refused-ended : (o : Result Ended) (which place stream : ℕ) → a ≡ judgedAs o → a .outcome ≡ Refused which place stream → o ≡ refused which place stream
-  refused-ended (ok x) which place stream e f = never (a .outcome) which place stream (ap (λ (j : Judged). j .outcome) e) f
-  refused-ended (refused n p i) which place stream e f = ap refusal (sym (ap (λ (j : Judged). j .outcome) e) ∙ f)
-
--- the same of a whole answer, and of the lent memory that goes with it
+-- what was answered, and the lent memory that goes with it
 module _ (r : Answer) where
   pub answer-fine : (o : Result L.Answer) → r ≡ answerAs o → r .outcome ≡ Fine → o ≡ ok (record { kind = r .kind; ends = r .ends; ends2 = r .ends2; found = r .found })
   answer-fine (ok x) e f = ap (λ (y : Answer). ok (record { kind = y .kind; ends = y .ends; ends2 = y .ends2; found = y .found })) (sym e)
   answer-fine (refused which place stream) e f = never (r .outcome) which place stream f (ap (λ (y : Answer). y .outcome) e)
+
+  pub answer-refused : (o : Result L.Answer) (which place stream : ℕ) → r ≡ answerAs o → r .outcome ≡ Refused which place stream → o ≡ refused which place stream
+  answer-refused (ok x) which place stream e f = never (r .outcome) which place stream (ap (λ (y : Answer). y .outcome) e) f
+  answer-refused (refused n p i) which place stream e f = ap refusal (sym (ap (λ (y : Answer). y .outcome) e) ∙ f)
 
   pub refused-keeps : (o : Result L.Answer) → r ≡ answerAs o → (which place stream : ℕ) → r .outcome ≡ Refused which place stream → (new lent out : List ℕ)
       → out ≡ lentAfter o new lent → out ≡ lent
@@ -49,6 +55,22 @@ module _ (r : Answer) where
   pub fine-reports : (o : Result L.Answer) → r ≡ answerAs o → r .outcome ≡ Fine → (new lent out : List ℕ) → out ≡ lentAfter o new lent → out ≡ new ++ drop (length new) lent
   fine-reports (ok x) e f new lent out h = h
   fine-reports (refused which place stream) e f new lent out h = never (r .outcome) which place stream f (ap (λ (y : Answer). y .outcome) e)
+
+-- the same for one who has matched on what was said
+module _ (r : Said) (ns cs : List ℕ) (o : Result L.Answer) (e : answerOf r ns cs ≡ answerAs o) where
+  pub said-fine : (kind ends ends2 n p : ℕ) (b : Bool) → r ≡ S.Fine kind ends ends2 n p b → o ≡ ok (record { kind = kind; ends = ends; ends2 = ends2; found = gathered ns cs b n p })
+  said-fine kind ends ends2 n p b q = answer-fine (answerOf (S.Fine kind ends ends2 n p b) ns cs) o (sym (ap (λ (x : Said). answerOf x ns cs) q) ∙ e) refl
+
+  pub said-refused : (which place stream : ℕ) → r ≡ S.Refused which place stream → o ≡ refused which place stream
+  said-refused which place stream q = answer-refused (answerOf (S.Refused which place stream) ns cs) o which place stream (sym (ap (λ (x : Said). answerOf x ns cs) q) ∙ e) refl
+
+pub ended-fine : (o : Result Ended) (a : L.Answer) → endedAs o ≡ ok a → o ≡ ok (record { found = a .found; ends = a .ends })
+ended-fine (ok x) a e = ap ended e
+ended-fine (refused which place stream) a e = absurd (omega (arith, ap isOk e))
+
+pub ended-refused : (o : Result Ended) (which place stream : ℕ) → endedAs o ≡ refused which place stream → o ≡ refused which place stream
+ended-refused (ok x) which place stream e = absurd (omega (arith, ap isOk e))
+ended-refused (refused n p i) which place stream e = ap ended e
 
 -- no more is written than n
 pub beyond : (n : ℕ) (new lent out : List ℕ) → length new ≡ n → out ≡ new ++ drop (length new) lent → drop n out ≡ drop n lent

@@ -1,65 +1,93 @@
--- The pieces one by one: what remains is judged as the whole.
-use Prim.Native.Nat.{ℕ}
-use mathlib.Core.Path.{_≡_, sym, _∙_, ap}
+-- Item by item: what remains is judged as the whole.
+use Prim.Native.Nat.{ℕ, _+_, _-_, _≤_, _<_}
+use mathlib.Core.Path.{_≡_, refl, sym, _∙_, ap, subst}
 use mathlib.Core.List.{List}
+use mathlib.Core.Bool.{Bool, not}
+use lib.ListN.{length, set}
+use lib.Dec.{eqb}
+use native.Mathlib.Omega.{arith}
+use borrow.Author.Tests.{lt-ltb}
 use Rattle.layouts.specs.declared.Record.{Record}
-use Rattle.layouts.specs.Primitive.{Result, ok, refused, onward}
-use Rattle.layouts.specs.Record.{noted, withEntries, withPayload}
-use Rattle.layouts.specs.Judge.{Ended, textTaken, halfTaken, chunkTaken, judgeOf}
-use Rattle.table.specs.Table.{roleOf, slotOf}
-use Rattle.walk.specs.declared.Walk.{Walk}
-use Rattle.walk.specs.declared.Step.{Step}
-use Rattle.walk.specs.declared.Step.the-variants as Steps
-use Rattle.walk.specs.Walk.{rest, shown}
-use Rattle.judge.specs.declared.Judged.{Judged}
-use Rattle.judge.specs.declared.Taken.{Taken}
-use Rattle.judge.specs.declared.Taken.the-variants as T
-use Rattle.judge.specs.Judged.{judgedAs, taken}
+use Rattle.layouts.specs.Primitive.{pick, Version, Result, ok, refused}
+use Rattle.layouts.specs.Shape.{Tree, truth}
+use Rattle.layouts.specs.Pieces.{run}
+use Rattle.layouts.specs.Record.{noted, withEntries, withPayload, withNumber, withCount, withPresence}
+use Rattle.layouts.specs.Judge.{Ended, judgeOf}
+use Rattle.table.specs.Packed.{fieldCount}
+use Rattle.table.specs.Table.{slotOf}
+use Rattle.items.specs.declared.Layout.{Layout}
+use Rattle.items.specs.declared.Item.{Item}
+use Rattle.items.specs.Items.{versionOf, layoutTree, piecesOf, restTree, itemTree, Falls}
+use Rattle.items.proofs.Trees.{layout-start, end-item, quiet-item}
+use Rattle.passing.specs.Passing.{fuelOf}
+use Rattle.judge.specs.declared.Answer.{Answer}
+use Rattle.judge.specs.declared.Fed.{Fed}
+use Rattle.judge.specs.declared.Fed.the-variants as F
+use Rattle.judge.specs.Judged.{gathered, answerAs, endedAs, fedTo, FedTook}
+use Rattle.judge.proofs.Notes.{noted-none, noted-number, noted-flag, noted-count, noted-presence, is-true}
 
--- o is what the whole is judged to be
-module _ (s : List ℕ) (slots room : ℕ) (w : Walk) (st : Step) (law : rest s w ≡ shown s st) (r : Record) (o : Result Ended) (inv : judgeOf s slots room r (rest s w) ≡ o) where
-  judge-step : (st' : Step) → st ≡ st' → judgeOf s slots room r (shown s st') ≡ o
-  judge-step st' e = sym (ap (judgeOf s slots room r) (law ∙ ap (shown s) e)) ∙ inv
+abbrev pub toJudge : List ℕ → (slots room : ℕ) → Record → Version → (at pc reps body i : ℕ) → Result Ended
+toJudge s slots room got ver at pc reps body i = judgeOf s slots room got (run (restTree ver pc reps body i tt) s at)
 
-  pub judge-number : (slot v place : ℕ) (w' : Walk) (n : Record) → st ≡ Steps.Number slot v place w' → n ≡ noted r (slotOf slot) v → judgeOf s slots room n (rest s w') ≡ o
-  unfolding judgeOf
-  judge-number slot v place w' n e q = ap (λ (x : Record). judgeOf s slots room x (rest s w')) q ∙ judge-step (Steps.Number slot v place w') e
+pub judge-start : (s : List ℕ) (slots room : ℕ) (got : Record) (l : Layout) (at : ℕ)
+    → toJudge s slots room got (versionOf l) at fieldCount 0 fieldCount (l .first) ≡ judgeOf s slots room got (piecesOf l s at)
+judge-start s slots room got l at = ap (λ (t : Tree). judgeOf s slots room got (run t s at)) (layout-start l)
 
-  pub judge-quiet : (w' : Walk) → st ≡ Steps.Quiet w' → judgeOf s slots room r (rest s w') ≡ o
-  judge-quiet w' e = judge-step (Steps.Quiet w') e
+module _ (s : List ℕ) (slots room : ℕ) (ver : Version) (at pc reps body x : ℕ) (f : Item) (law : restTree ver pc reps body x tt ≡ itemTree ver f)
+    (got : Record) (o : Result Ended) (inv : toJudge s slots room got ver at pc reps body x ≡ o) where
+  by-item : (t : Tree) → itemTree ver f ≡ t → judgeOf s slots room got (run t s at) ≡ o
+  by-item t e = sym (ap (λ (x : Tree). judgeOf s slots room got (run x s at)) (law ∙ e)) ∙ inv
 
-  module _ (role start len : ℕ) (w' : Walk) (t : Taken) (e : st ≡ Steps.Text role start len w') (q : taken (withEntries r) t ≡ textTaken s slots r (roleOf role) start len) where
-    text-step : onward (taken (withEntries r) t) (λ r'. judgeOf s slots room r' (rest s w')) ≡ o
-    unfolding judgeOf
-    text-step = ap (λ (x : Result Record). onward x (λ r'. judgeOf s slots room r' (rest s w'))) q ∙ judge-step (Steps.Text role start len w') e
+  pub judge-end : f .kind ≡ 0 → answerAs (endedAs (ok (record { found = got; ends = at }))) ≡ answerAs (endedAs o)
+  unfolding run judgeOf
+  judge-end k = ap (λ (y : Result Ended). answerAs (endedAs y)) (by-item _ (end-item ver f k))
 
-    pub judge-text : (n : ℕ) → t ≡ T.Fine n → judgeOf s slots room (withEntries r n) (rest s w') ≡ o
-    judge-text n g = sym (ap (λ (x : Taken). onward (taken (withEntries r) x) (λ r'. judgeOf s slots room r' (rest s w'))) g) ∙ text-step
+  pub judge-quiet : f .kind ≡ 16 → toJudge s slots room got ver at (f .pc) (f .reps) (f .body) (f .run) ≡ o
+  judge-quiet k = by-item _ (quiet-item ver f k)
 
-    pub judge-text-stop : (which place : ℕ) (a : Judged) → t ≡ T.Refused which place → a ≡ judgedAs (refused which place 0) → a ≡ judgedAs o
-    judge-text-stop which place a g h =
-        h ∙ ap judgedAs (sym (ap (λ (x : Taken). onward (taken (withEntries r) x) (λ r'. judgeOf s slots room r' (rest s w'))) g) ∙ text-step)
+  module _ (k : Fed) (h : (ver : Version) (y : Record) → y .entries ≡ got .entries → y .payload ≡ got .payload → judgeOf s slots room y (run (itemTree ver f) s at) ≡ fedTo s slots room ver y f k) where
+    by-fed : (y : Fed) → k ≡ y → fedTo s slots room ver got f y ≡ o
+    by-fed y q = sym (h ver got refl refl ∙ ap (fedTo s slots room ver got f) q) ∙ by-item _ refl
 
-  module _ (start len : ℕ) (w' : Walk) (t : Taken) (e : st ≡ Steps.Chunk start len w') (q : taken (withPayload r) t ≡ chunkTaken room r start len) where
-    chunk-step : onward (taken (withPayload r) t) (λ r'. judgeOf s slots room r' (rest s w')) ≡ o
-    unfolding judgeOf
-    chunk-step = ap (λ (x : Result Record). onward x (λ r'. judgeOf s slots room r' (rest s w'))) q ∙ judge-step (Steps.Chunk start len w') e
+    pub judge-stop : (which place : ℕ) (a : Answer) → k ≡ F.Refused which place → a ≡ answerAs (refused which place 0) → a ≡ answerAs (endedAs o)
+    judge-stop which place a q e = e ∙ ap (λ (y : Result Ended). answerAs (endedAs y)) (by-fed (F.Refused which place) q)
 
-    pub judge-chunk : (n : ℕ) → t ≡ T.Fine n → judgeOf s slots room (withPayload r n) (rest s w') ≡ o
-    judge-chunk n g = sym (ap (λ (x : Taken). onward (taken (withPayload r) x) (λ r'. judgeOf s slots room r' (rest s w'))) g) ∙ chunk-step
+    pub judge-on : (a n p r slot v : ℕ) → k ≡ F.Past a n p r slot v → (y : Record) → y ≡ noted (withPayload (withEntries got n) p) (slotOf slot) v
+        → toJudge s slots room y ver a (f .pc) r (f .body) (f .run) ≡ o
+    judge-on a n p r slot v q y e = ap (λ (z : Record). toJudge s slots room z ver a (f .pc) r (f .body) (f .run)) e ∙ by-fed (F.Past a n p r slot v) q
 
-    pub judge-chunk-stop : (which place : ℕ) (a : Judged) → t ≡ T.Refused which place → a ≡ judgedAs (refused which place 0) → a ≡ judgedAs o
-    judge-chunk-stop which place a g h =
-        h ∙ ap judgedAs (sym (ap (λ (x : Taken). onward (taken (withPayload r) x) (λ r'. judgeOf s slots room r' (rest s w'))) g) ∙ chunk-step)
+-- ---- a number in its slot, written in place
+module _ (ns cs : List ℕ) (b : Bool) (slot v : ℕ) where
+  abbrev Noted : (ns cs : List ℕ) → Bool → Type 0
+  Noted ns' cs' b' = (n p : ℕ) → gathered ns' cs' b' n p ≡ noted (gathered ns cs b n p) (slotOf slot) v
 
-  pub judge-half : (role start len : ℕ) (a : Judged) → st ≡ Steps.Half role start len → a ≡ judgedAs (halfTaken s (roleOf role) start len) → a ≡ judgedAs o
-  unfolding judgeOf
-  judge-half role start len a e h = h ∙ ap judgedAs (judge-step (Steps.Half role start len) e)
+  pub in-none : slot ≡ 0 → Noted ns cs b
+  in-none z n p = noted-none (gathered ns cs b n p) slot v z
 
-  pub judge-end : (ends : ℕ) → st ≡ Steps.Done ends → judgedAs (ok (record { found = r; ends = ends })) ≡ judgedAs o
-  unfolding judgeOf
-  judge-end ends e = ap judgedAs (judge-step (Steps.Done ends) e)
+  module _ (z : slot ≡ 0 → ⊥) where
+    pub in-number : slot < 13 → Noted (set ns (slot - 1) v) cs b
+    in-number h n p =
+        let g : slot - 1 < 12 = omega arith in
+        ap (λ (u : Bool). gathered (pick u (set ns (slot - 1) v) ns) cs b n p) (sym (lt-ltb (slot - 1) 12 g)) ∙ noted-number (gathered ns cs b n p) slot v z h
 
-  pub judge-fault : (which place : ℕ) (a : Judged) → st ≡ Steps.Refused which place → a ≡ judgedAs (refused which place 0) → a ≡ judgedAs o
-  unfolding judgeOf
-  judge-fault which place a e h = h ∙ ap judgedAs (judge-step (Steps.Refused which place) e)
+    pub in-flag : (y : ℕ) → y ≡ truth v → 13 ≤ slot → slot < 25 → Noted (set ns (slot - 13) y) cs b
+    in-flag y e l h n p =
+        let g : slot - 13 < 12 = omega arith in
+        ap (λ (u : Bool). gathered (pick u (set ns (slot - 13) y) ns) cs b n p) (sym (lt-ltb (slot - 13) 12 g))
+        ∙ ap (λ (x : ℕ). withNumber (gathered ns cs b n p) (slot - 13) x) e ∙ noted-flag (gathered ns cs b n p) slot v z l h
+
+    pub in-count : 25 ≤ slot → slot < 28 → Noted ns (set cs (slot - 25) v) b
+    in-count l h n p =
+        let g : slot - 25 < 3 = omega arith in
+        ap (λ (u : Bool). gathered ns (pick u (set cs (slot - 25) v) cs) b n p) (sym (lt-ltb (slot - 25) 3 g)) ∙ noted-count (gathered ns cs b n p) slot v z l h
+
+    pub in-presence : 28 ≤ slot → Noted ns cs (not (eqb v 0))
+    in-presence l n p = noted-presence (gathered ns cs b n p) slot v (not (eqb v 0)) z l (is-true v)
+
+-- ---- the measure
+module _ (s : List ℕ) (at pc reps i : ℕ) where
+  pub quiet-less : (f : Item) → Falls pc reps i f → f .kind ≡ 16 → fuelOf s at (f .pc) (f .reps) (f .run) < fuelOf s at pc reps i
+  quiet-less f h k = let g = h (λ z. omega arith) (omega arith) in omega (arith, g)
+
+  pub fed-less : (k : Fed) (a n p r slot v pc' i' : ℕ) → FedTook s at k → k ≡ F.Past a n p r slot v → r < 18446744073709551616 → fuelOf s a pc' r i' < fuelOf s at pc reps i
+  fed-less k a n p r slot v pc' i' h q b = let g : FedTook s at (F.Past a n p r slot v) = subst (FedTook s at) q h in omega (arith, g)

@@ -1,5 +1,6 @@
 pub mod Notes
 pub mod Pieces
+pub mod Feeding
 pub mod Judging
 pub mod Rows
 pub mod Answers

@@ -18,17 +18,11 @@ use Rattle.strings.specs.declared.More.{More}
 use Rattle.strings.specs.declared.More.the-variants as M
 use Rattle.strings.specs.Strings.{row, rowAfter}
 use Rattle.table.specs.Table.{roleOf}
-use Rattle.walk.specs.declared.Walk.{Walk}
-use Rattle.walk.specs.declared.Todo.{Todo}
-use Rattle.walk.specs.declared.Todo.the-variants.{Fields, Strings}
-use Rattle.walk.specs.Walk.{rest, todoTree, flowTree, fuelAt, fuel}
 use Rattle.judge.specs.declared.Taken.{Taken}
 use Rattle.judge.specs.declared.Taken.the-variants as K
 use Rattle.judge.specs.declared.Row.{Row}
 use Rattle.judge.specs.declared.Row.the-variants as O
-use Rattle.judge.specs.declared.Ran.{Ran}
-use Rattle.judge.specs.declared.Ran.the-variants as N
-use Rattle.judge.specs.Judged.{taken, rowTo, RowFrom, ranTo, RanFalls}
+use Rattle.judge.specs.Judged.{taken, rowTo}
 
 module _ (s : List ℕ) (slots : ℕ) (m : Role) (e from p₀ l₀ n₀ : ℕ) where
   abbrev Whole₀ : (room : ℕ) (k : Unit {0} → Tree) → Record → Result Ended
@@ -93,43 +87,3 @@ module _ (s : List ℕ) (slots : ℕ) (m : Role) (e from p₀ l₀ n₀ : ℕ) w
               let a = whole-on in
               let b = g .on in
               record { on = omega (arith, a); same = λ room k x z. took (K.Fine n') i room k x z }
-
--- ---- the strings that a field has left, in one go
-module _ (s : List ℕ) (slots n : ℕ) (w : Walk) where
-  row-rest : (role pend extra left : ℕ) → w .todo ≡ Strings role pend extra left → rest s w ≡ run (row (roleOf role) pend extra left (flowTree (w .flow))) s (w .at)
-  unfolding rest todoTree row
-  row-rest role pend extra left e = ap (λ (x : Todo). run (todoTree x (flowTree (w .flow))) s (w .at)) e
-
-  module _ (role pend extra left : ℕ) (e : w .todo ≡ Strings role pend extra left) (o : Row)
-      (h : (room : ℕ) (k : Unit {0} → Tree) (x : Record) → x .entries ≡ n → judgeOf s slots room x (run (row (roleOf role) pend extra left k) s (w .at)) ≡ rowTo s slots room x k o) where
-    ran : (y : Row) → o ≡ y → (room : ℕ) (x : Record) → x .entries ≡ n → judgeOf s slots room x (rest s w) ≡ rowTo s slots room x (flowTree (w .flow)) y
-    ran y q room x z =
-        ap (judgeOf s slots room x) (row-rest role pend extra left e) ∙ h room (flowTree (w .flow)) x z ∙ ap (rowTo s slots room x (flowTree (w .flow))) q
-
-    pub ran-refused : (which place : ℕ) → o ≡ O.Refused which place → (room : ℕ) (x : Record) → x .entries ≡ n → judgeOf s slots room x (rest s w) ≡ refused which place 0
-    ran-refused which place q room x z = ran (O.Refused which place) q room x z
-
-    pub ran-past : (at n' : ℕ) → o ≡ O.Past at n' → (room : ℕ) (x : Record) → x .entries ≡ n
-        → judgeOf s slots room x (rest s w) ≡ judgeOf s slots room (withEntries x n') (rest s (record { at = at; todo = Fields; flow = w .flow }))
-    unfolding rest todoTree
-    ran-past at n' q room x z = ran (O.Past at n') q room x z
-
-  pub ran-falls : (o : Row) (at n' : ℕ) → RowFrom (w .at) o → o ≡ O.Past at n' → fuel s (record { at = at; todo = Fields; flow = w .flow }) ≤ fuel s w
-  unfolding fuelAt
-  ran-falls o at n' h q = let g : RowFrom (w .at) (O.Past at n') = subst (RowFrom (w .at)) q h in omega arith
-
-  -- no strings are left
-  pub ran-none : (room : ℕ) (x : Record) → x .entries ≡ n → judgeOf s slots room x (rest s w) ≡ judgeOf s slots room (withEntries x n) (rest s w)
-  ran-none room x z = ap (λ (i : ℕ). judgeOf s slots room (withEntries x i) (rest s w)) z
-
--- for the loop that has matched on it
-module _ (s : List ℕ) (slots room : ℕ) (x : Record) (w : Walk) (k : Ran) (law : (room : ℕ) (y : Record) → y .entries ≡ x .entries → judgeOf s slots room y (rest s w) ≡ ranTo s slots room y k)
-    (o : Result Ended) (inv : judgeOf s slots room x (rest s w) ≡ o) where
-  pub judge-ran : (v : Walk) (n : ℕ) → k ≡ N.On v n → judgeOf s slots room (withEntries x n) (rest s v) ≡ o
-  judge-ran v n q = sym (law room x refl ∙ ap (ranTo s slots room x) q) ∙ inv
-
-  pub judge-cut : (which place : ℕ) → k ≡ N.Refused which place → refused which place 0 ≡ o
-  judge-cut which place q = sym (law room x refl ∙ ap (ranTo s slots room x) q) ∙ inv
-
-pub ran-less : (s : List ℕ) (f : ℕ) (k : Ran) (v : Walk) (n : ℕ) → RanFalls s f k → k ≡ N.On v n → fuel s v ≤ f
-ran-less s f k v n h q = subst (RanFalls s f) q h

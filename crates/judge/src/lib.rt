@@ -1,32 +1,26 @@
-// The judge: a walk without writes that ends in the record of a layout, or in the first refusal. Text and room are judged here, and not in the walk.
+// The judge: a fold over items that ends in the record of a layout, or in the first refusal. It writes no lent room but that of the record's numbers. Text and
+// room are judged here, and not by the iterator.
 ghost use mathlib.Core.Path.{_≡_};
 ghost use Prim.Native.Nat.{ℕ, _+_, _-_, _≤_};
 ghost use lib.ListN.{length};
-ghost use Rattle.layouts.specs.Primitive.{version, refused};
+ghost use mathlib.Core.Bool.{false};
+ghost use Rattle.layouts.specs.Primitive.{Version, refused};
 ghost use Rattle.layouts.specs.declared.Record.{Record};
-ghost use Rattle.layouts.specs.Shape.{truth, Tree};
+ghost use Rattle.layouts.specs.Shape.{truth, Tree, ask, say, frames, dropped};
 ghost use Rattle.layouts.specs.Pieces.{run};
-ghost use Rattle.layouts.specs.Record.{blank, withNumber, withCount, withEntries, withPayload, noted};
+ghost use Rattle.layouts.specs.Record.{blank, withEntries, withPayload, noted};
 ghost use Rattle.layouts.specs.Judge.{notText, textTaken, halfTaken, chunkTaken, judgeOf};
 ghost use Rattle.table.specs.Table.{roleOf, slotOf};
-ghost use Rattle.walk.specs.Walk.{layoutPieces, rest, fuel};
-ghost use Rattle.judge.specs.Judged.{taken, judgedAs, answerAs, rowTo, RowFrom, ranTo, RanFalls};
+ghost use Rattle.judge.specs.Judged.{gathered, answerOf, answerAs, endedAs, taken, rowTo, RowFrom, Judges, RowTook, framesTo, fedTo, FedTook};
 ghost use Rattle.strings.specs.Strings.{row};
+ghost use Rattle.items.specs.Items.{piecesOf, itemTree, slotFor, afterNumber};
+use items::Item;
+use items::Layout;
 use layouts::Record;
+use number::Number;
+use pieces::Chunk;
 use pieces::Text;
 use strings::More;
-use walk::Step;
-use walk::Todo;
-use walk::Walk;
-
-// Refusals: a piece needs more bytes than remain, contents that are no text, a kept string has no slot, a chunk does not fit in what is left.
-const CUT_SHORT: u64 = 1;
-
-const BAD_TEXT: u64 = 3;
-
-const NO_ENTRY_ROOM: u64 = 4;
-
-const NO_PAYLOAD_ROOM: u64 = 5;
 
 // The stream is 1 for the daemon's of a handshake and else 0.
 pub enum Outcome {
@@ -38,13 +32,6 @@ pub enum Outcome {
     },
 }
 
-// On a refusal the record is blank and the end 0.
-pub struct Judged {
-    pub outcome: Outcome,
-    pub found: Record,
-    pub ends: usize,
-}
-
 // What a call answers: its kind, where it ended on the stream (a handshake on both), and the record. On a refusal all but the outcome is blank.
 pub struct Answer {
     pub outcome: Outcome,
@@ -52,6 +39,23 @@ pub struct Answer {
     pub ends: usize,
     pub ends2: usize,
     pub found: Record,
+}
+
+// An answer without its numbers and counts, which stand beside it; a refusal leaves none of them.
+pub enum Said {
+    Fine {
+        kind: u64,
+        ends: usize,
+        ends2: usize,
+        entries: usize,
+        payload: usize,
+        present: bool,
+    },
+    Refused {
+        which: u64,
+        place: usize,
+        stream: u64,
+    },
 }
 
 // What a string or chunk makes of the entries, or of the payload, so far.
@@ -66,10 +70,20 @@ enum Row {
     Refused { which: u64, place: usize },
 }
 
-// The same as a walk past the row.
-enum Ran {
-    On { walk: Walk, entries: usize },
-    Refused { which: u64, place: usize },
+// What an item makes of the state: where it ends, the entries and the payload then, how often the body comes again, and a number with its slot.
+enum Fed {
+    Past {
+        at: usize,
+        entries: usize,
+        payload: usize,
+        reps: u64,
+        slot: usize,
+        value: u64,
+    },
+    Refused {
+        which: u64,
+        place: usize,
+    },
 }
 
 pub fn empty() -> Record
@@ -84,21 +98,7 @@ pub fn empty() -> Record
     }
 }
 
-fn refuse(which: u64, place: usize) -> Judged
-    ensures { λ r. ⌜ r ≡ judgedAs (refused which place 0) ⌝ }
-{
-    Judged {
-        outcome: Outcome::Refused {
-            which,
-            place,
-            stream: 0,
-        },
-        found: empty(),
-        ends: 0,
-    }
-}
-
-// The same as a whole answer, of a stream that is not a handshake's.
+// A refusal as a whole answer, of a stream that is not a handshake's.
 pub fn refused_answer(which: u64, place: usize) -> Answer
     ensures { λ r. ⌜ r ≡ answerAs (refused which place 0) ⌝ }
 {
@@ -115,26 +115,6 @@ pub fn refused_answer(which: u64, place: usize) -> Answer
     }
 }
 
-fn with_number(r: Record, i: usize, x: u64) -> Record
-    ensures { λ o. ⌜ o ≡ withNumber r i x ⌝ }
-{
-    let mut next = r;
-    if i < 12 {
-        next.numbers[i] = x;
-    }
-    next
-}
-
-fn with_count(r: Record, i: usize, x: u64) -> Record
-    ensures { λ o. ⌜ o ≡ withCount r i x ⌝ }
-{
-    let mut next = r;
-    if i < 3 {
-        next.counts[i] = x;
-    }
-    next
-}
-
 fn flag(x: u64) -> u64
     ensures { λ r. ⌜ r ≡ truth x ⌝ }
 {
@@ -142,28 +122,6 @@ fn flag(x: u64) -> u64
         return 0;
     }
     1
-}
-
-// The record after a number, by the slot that the table gives it.
-fn note(r: Record, slot: u8, x: u64) -> Record
-    ensures { λ o. ⌜ o ≡ noted r (slotOf slot) x ⌝ }
-{
-    let i = slot as usize;
-    if i == 0 {
-        return r;
-    }
-    if i < 13 {
-        return with_number(r, i - 1, x);
-    }
-    if i < 25 {
-        return with_number(r, i - 13, flag(x));
-    }
-    if i < 28 {
-        return with_count(r, i - 25, x);
-    }
-    let mut next = r;
-    next.present = x != 0;
-    next
 }
 
 // The place of a length, from that of the contents.
@@ -195,7 +153,7 @@ fn take_text(s: &[u8], slots: usize, n: usize, role: u8, start: usize, len: usiz
 {
     if is_bad(s, role, start, len) {
         return Taken::Refused {
-            which: BAD_TEXT,
+            which: layouts::BAD_TEXT,
             place: start,
         };
     }
@@ -204,7 +162,7 @@ fn take_text(s: &[u8], slots: usize, n: usize, role: u8, start: usize, len: usiz
     }
     if slots <= n {
         return Taken::Refused {
-            which: NO_ENTRY_ROOM,
+            which: layouts::NO_ENTRY_ROOM,
             place: place_of(start),
         };
     }
@@ -212,17 +170,6 @@ fn take_text(s: &[u8], slots: usize, n: usize, role: u8, start: usize, len: usiz
 }
 
 // A string whose padding is cut short: 3, else 1.
-fn take_half(s: &[u8], role: u8, start: usize, len: usize) -> Judged
-    requires { ⌜ start + len ≤ length (now s) ⌝ }
-    ensures { λ o. ⌜ o ≡ judgedAs (halfTaken (now (s .entry)) (roleOf role) start len) ⌝ }
-{
-    if is_bad(s, role, start, len) {
-        return refuse(BAD_TEXT, start);
-    }
-    refuse(CUT_SHORT, start + len)
-}
-
-// The same in a row.
 fn half_row(s: &[u8], role: u8, start: usize, len: usize) -> Row
     requires { ⌜ start + len ≤ length (now s) ⌝ }
     ensures law { λ o. ⌜ ((slots room : ℕ) (x : Record) (k : Unit {0} → Tree) → rowTo (now (s .entry)) slots room x k o ≡ halfTaken (now (s .entry)) (roleOf role) start len) ⌝ }
@@ -230,12 +177,12 @@ fn half_row(s: &[u8], role: u8, start: usize, len: usize) -> Row
 {
     if is_bad(s, role, start, len) {
         return Row::Refused {
-            which: BAD_TEXT,
+            which: layouts::BAD_TEXT,
             place: start,
         };
     }
     Row::Refused {
-        which: CUT_SHORT,
+        which: layouts::CUT_SHORT,
         place: start + len,
     }
 }
@@ -293,150 +240,400 @@ fn judge_row(
     }
 }
 
-// All strings that a field has left, in one go.
-fn judge_strings(s: &[u8], w: Walk, slots: usize, n: usize) -> Ran
-    ensures law { λ r. ⌜ ((room : ℕ) (x : Record) → x .entries ≡ n → judgeOf (now (s .entry)) slots room x (rest (now (s .entry)) w) ≡ ranTo (now (s .entry)) slots room x r) ⌝ }
-    ensures falls { λ r. ⌜ RanFalls (now (s .entry)) (fuel (now (s .entry)) w) r ⌝ }
+// One string.
+fn judge_text(s: &[u8], at: usize, role: u8, slots: usize, n: usize) -> Row
+    ensures law { λ r. ⌜ Judges (now (s .entry)) slots at (say (roleOf role)) n r ⌝ }
+    ensures on { λ r. ⌜ RowTook (now (s .entry)) at r ⌝ }
 {
-    let todo = w.todo;
-    match todo {
-        Todo::Strings {
-            role,
-            pend,
-            extra,
-            left,
-        } => {
-            let flow = w.flow;
-            let k = judge_row(s, w.at, role, pend, extra, left, slots, n);
-            match k {
-                Row::Refused { which, place } => Ran::Refused { which, place },
-                Row::Past { at, entries } => {
-                    let walk = Walk {
-                        at,
-                        todo: Todo::Fields,
-                        flow,
-                    };
-                    Ran::On { walk, entries }
-                }
+    let t = pieces::text_at(s, at);
+    match t {
+        Text::Bad { which, place } => Row::Refused { which, place },
+        Text::Half { start, len } => half_row(s, role, start, len),
+        Text::Whole { start, len, next } => {
+            let f = take_text(s, slots, n, role, start, len);
+            match f {
+                Taken::Refused { which, place } => Row::Refused { which, place },
+                Taken::Fine(entries) => Row::Past { at: next, entries },
             }
         }
-        Todo::Fields => Ran::On {
-            walk: w,
-            entries: n,
+    }
+}
+
+// A number that is dropped.
+fn drop_number(s: &[u8], at: usize, n: usize) -> Row
+    ensures law { λ r. ⌜ ((slots : ℕ) → Judges (now (s .entry)) slots at (λ k. ask dropped (λ v. k tt)) n r) ⌝ }
+    ensures on { λ r. ⌜ RowTook (now (s .entry)) at r ⌝ }
+{
+    let m = pieces::number_at(s, at);
+    match m {
+        Number::Short => Row::Refused {
+            which: layouts::CUT_SHORT,
+            place: at,
         },
-        Todo::Number => Ran::On {
-            walk: w,
-            entries: n,
-        },
-        Todo::Chunks => Ran::On {
-            walk: w,
+        Number::Value(_) => Row::Past {
+            at: at + 8,
             entries: n,
         },
     }
 }
 
-// A chunk: 5, or the record with its bytes counted.
-fn take_chunk(room: usize, r: Record, start: usize, len: usize) -> Taken
-    ensures { λ o. ⌜ taken (withPayload r) o ≡ chunkTaken room r start len ⌝ }
+// What follows the number of a field.
+fn judge_after(s: &[u8], at: usize, kind: u8, role: u8, x: u64, slots: usize, n: usize) -> Row
+    ensures law { λ r. ⌜ Judges (now (s .entry)) slots at (afterNumber kind role x) n r ⌝ }
+    ensures on { λ r. ⌜ RowFrom at r ⌝ }
 {
-    let n = r.payload;
+    if kind == table::SET {
+        return judge_row(s, at, role, 0, 0, x, slots, n);
+    }
+    if kind == table::PAIRS {
+        return judge_row(s, at, role, 0, 1, x, slots, n);
+    }
+    if kind == table::MAYBE {
+        if x == 0 {
+            return Row::Past { at, entries: n };
+        }
+        return drop_number(s, at, n);
+    }
+    if kind == table::TYPED {
+        if x == 0 {
+            return drop_number(s, at, n);
+        }
+        return judge_text(s, at, table::PASSED, slots, n);
+    }
+    Row::Past { at, entries: n }
+}
+
+// A chunk, with n bytes before it: 5, or the bytes with its own.
+fn take_chunk(room: usize, n: usize, start: usize, len: usize) -> Taken
+    ensures { λ o. ⌜ ((r : Record) → r .payload ≡ n → taken (withPayload r) o ≡ chunkTaken room r start len) ⌝ }
+{
     let place = place_of(start);
     if room < n {
         return Taken::Refused {
-            which: NO_PAYLOAD_ROOM,
+            which: layouts::NO_PAYLOAD_ROOM,
             place,
         };
     }
     if room - n < len {
         return Taken::Refused {
-            which: NO_PAYLOAD_ROOM,
+            which: layouts::NO_PAYLOAD_ROOM,
             place,
         };
     }
     Taken::Fine(n + len)
 }
 
-// The layout that starts at a run, from a place of the stream on, with the record so far and room for so many entries and payload bytes in all.
-pub fn judge(
-    s: &[u8],
-    at: usize,
-    major: u16,
-    minor: u8,
-    run: usize,
-    slots: usize,
-    room: usize,
-    sofar: Record,
-) -> Judged
-    ensures { λ r. ⌜ r ≡ judgedAs (judgeOf (now (s .entry)) slots room sofar (layoutPieces (version major minor) run (now (s .entry)) at)) ⌝ }
+// Chunks up to the empty one, with n bytes of payload before them: where they end, and the bytes then.
+fn judge_frames(s: &[u8], from: usize, room: usize, n: usize) -> Row
+    ensures law { λ r. ⌜ ((slots : ℕ) (k : Unit {0} → Tree) (x : Record) → x .payload ≡ n → judgeOf (now (s .entry)) slots room x (run (frames k) (now (s .entry)) from) ≡ framesTo (now (s .entry)) slots room x k r) ⌝ }
+    ensures on { λ r. ⌜ RowTook (now (s .entry)) from r ⌝ }
 {
-    let mut w = walk::begin(major, minor, run, at);
-    let mut got = sofar;
+    let mut at = from;
+    let mut total = n;
     loop {
-        let st = walk::next(s, w);
-        match st {
-            Step::Number {
-                slot,
-                value,
-                place: _,
-                next,
-            } => {
-                got = note(got, slot, value);
-                let k = judge_strings(s, next, slots, got.entries);
-                match k {
-                    Ran::Refused { which, place } => {
-                        return refuse(which, place);
-                    }
-                    Ran::On { walk, entries } => {
-                        got.entries = entries;
-                        w = walk;
-                    }
-                }
+        let m = pieces::chunk_at(s, at);
+        match m {
+            Chunk::Wrong { which, place } => {
+                return Row::Refused { which, place };
             }
-            Step::Text {
-                role,
-                start,
-                len,
-                next,
-            } => {
-                let t = take_text(s, slots, got.entries, role, start, len);
-                match t {
-                    Taken::Refused { which, place } => {
-                        return refuse(which, place);
-                    }
-                    Taken::Fine(entries) => {
-                        got.entries = entries;
-                        w = next;
-                    }
-                }
-            }
-            Step::Half { role, start, len } => {
-                return take_half(s, role, start, len);
-            }
-            Step::Chunk { start, len, next } => {
-                let t = take_chunk(room, got, start, len);
-                match t {
-                    Taken::Refused { which, place } => {
-                        return refuse(which, place);
-                    }
-                    Taken::Fine(payload) => {
-                        got.payload = payload;
-                        w = next;
-                    }
-                }
-            }
-            Step::Quiet(next) => {
-                w = next;
-            }
-            Step::Done(ends) => {
-                return Judged {
-                    outcome: Outcome::Fine,
-                    found: got,
-                    ends,
+            Chunk::Last(next) => {
+                return Row::Past {
+                    at: next,
+                    entries: total,
                 };
             }
-            Step::Refused { which, place } => {
-                return refuse(which, place);
+            Chunk::Part { start, len, next } => {
+                let t = take_chunk(room, total, start, len);
+                match t {
+                    Taken::Refused { which, place } => {
+                        return Row::Refused { which, place };
+                    }
+                    Taken::Fine(more) => {
+                        at = next;
+                        total = more;
+                    }
+                }
             }
         }
     }
+}
+
+// The flag of a maybe and the type of a typed field go nowhere.
+fn slot_for(kind: u8, slot: u8) -> u8
+    ensures { λ r. ⌜ r ≡ slotFor kind slot ⌝ }
+{
+    if kind == table::MAYBE {
+        return table::DROPPED;
+    }
+    if kind == table::TYPED {
+        return table::DROPPED;
+    }
+    slot
+}
+
+// An item that begins with a number.
+fn feed_number(s: &[u8], at: usize, f: Item, slots: usize, n: usize, p: usize) -> Fed
+    requires { ⌜ (f .kind ≡ 0 → ⊥) × (f .kind ≡ 16 → ⊥) × (f .kind ≡ 2 → ⊥) × (f .kind ≡ 5 → ⊥) ⌝ }
+    ensures law { λ r. ⌜ ((room : ℕ) (ver : Version) (x : Record) → x .entries ≡ n → x .payload ≡ p → judgeOf (now (s .entry)) slots room x (run (itemTree ver f) (now (s .entry)) at) ≡ fedTo (now (s .entry)) slots room ver x f r) ⌝ }
+    ensures on { λ r. ⌜ FedTook (now (s .entry)) at r ⌝ }
+{
+    let m = pieces::number_at(s, at);
+    match m {
+        Number::Short => Fed::Refused {
+            which: layouts::CUT_SHORT,
+            place: at,
+        },
+        Number::Value(x) => {
+            let kind = f.kind;
+            let on = at + 8;
+            if items::QUIET < kind {
+                let times = items::times(kind, x);
+                return Fed::Past {
+                    at: on,
+                    entries: n,
+                    payload: p,
+                    reps: times,
+                    slot: f.slot as usize,
+                    value: x,
+                };
+            }
+            let slot = slot_for(kind, f.slot);
+            let k = judge_after(s, on, kind, f.role, x, slots, n);
+            match k {
+                Row::Refused { which, place } => Fed::Refused { which, place },
+                Row::Past { at, entries } => Fed::Past {
+                    at,
+                    entries,
+                    payload: p,
+                    reps: f.reps,
+                    slot: slot as usize,
+                    value: x,
+                },
+            }
+        }
+    }
+}
+
+// An item that reads something, with n entries and p bytes of payload before it.
+fn feed(s: &[u8], at: usize, f: Item, slots: usize, room: usize, n: usize, p: usize) -> Fed
+    requires { ⌜ (f .kind ≡ 0 → ⊥) × (f .kind ≡ 16 → ⊥) ⌝ }
+    ensures law { λ r. ⌜ ((ver : Version) (x : Record) → x .entries ≡ n → x .payload ≡ p → judgeOf (now (s .entry)) slots room x (run (itemTree ver f) (now (s .entry)) at) ≡ fedTo (now (s .entry)) slots room ver x f r) ⌝ }
+    ensures on { λ r. ⌜ FedTook (now (s .entry)) at r ⌝ }
+{
+    let kind = f.kind;
+    if kind == table::STR {
+        let k = judge_text(s, at, f.role, slots, n);
+        match k {
+            Row::Refused { which, place } => {
+                return Fed::Refused { which, place };
+            }
+            Row::Past { at, entries } => {
+                return Fed::Past {
+                    at,
+                    entries,
+                    payload: p,
+                    reps: f.reps,
+                    slot: 0,
+                    value: 0,
+                };
+            }
+        }
+    }
+    if kind == table::FRAMES {
+        let k = judge_frames(s, at, room, p);
+        match k {
+            Row::Refused { which, place } => {
+                return Fed::Refused { which, place };
+            }
+            Row::Past { at, entries } => {
+                return Fed::Past {
+                    at,
+                    entries: n,
+                    payload: entries,
+                    reps: f.reps,
+                    slot: 0,
+                    value: 0,
+                };
+            }
+        }
+    }
+    feed_number(s, at, f, slots, n, p)
+}
+
+// What is said, with the numbers and counts beside it, as one answer.
+pub fn answer_of(said: Said, numbers: [u64; 12], counts: [u64; 3]) -> Answer
+    ensures { λ r. ⌜ r ≡ answerOf said numbers counts ⌝ }
+{
+    match said {
+        Said::Fine {
+            kind,
+            ends,
+            ends2,
+            entries,
+            payload,
+            present,
+        } => Answer {
+            outcome: Outcome::Fine,
+            kind,
+            ends,
+            ends2,
+            found: Record {
+                numbers,
+                counts,
+                present,
+                entries,
+                payload,
+            },
+        },
+        Said::Refused {
+            which,
+            place,
+            stream,
+        } => Answer {
+            outcome: Outcome::Refused {
+                which,
+                place,
+                stream,
+            },
+            kind: 0,
+            ends: 0,
+            ends2: 0,
+            found: Record {
+                numbers,
+                counts,
+                present: false,
+                entries: 0,
+                payload: 0,
+            },
+        },
+    }
+}
+
+// A number into the slot that the table gives it, and whether a group that a flag decides is there then.
+fn note(numbers: &mut [u64; 12], counts: &mut [u64; 3], present: bool, slot: usize, x: u64) -> bool
+    ensures { λ r. ⌜ ((n p : ℕ) → gathered (now (numbers .exit)) (now (counts .exit)) r n p ≡ noted (gathered (now (numbers .entry)) (now (counts .entry)) present n p) (slotOf slot) x) ⌝ }
+{
+    if slot == 0 {
+        return present;
+    }
+    if slot < 13 {
+        numbers[slot - 1] = x;
+        return present;
+    }
+    if slot < 25 {
+        numbers[slot - 13] = flag(x);
+        return present;
+    }
+    if slot < 28 {
+        counts[slot - 25] = x;
+        return present;
+    }
+    x != 0
+}
+
+// A refusal, of a stream that is not a handshake's, with numbers and counts that say nothing.
+pub fn refuse(which: u64, place: usize, numbers: &mut [u64; 12], counts: &mut [u64; 3]) -> Said
+    ensures { λ r. ⌜ answerOf r (now (numbers .exit)) (now (counts .exit)) ≡ answerAs (refused which place 0) ⌝ }
+{
+    *numbers = [0u64; 12];
+    *counts = [0u64; 3];
+    Said::Refused {
+        which,
+        place,
+        stream: 0,
+    }
+}
+
+// The layout that begins at a place of the stream, with the record so far, whose numbers and counts are written in place. There is room for so many entries
+// and payload bytes in all.
+pub fn judge(
+    s: &[u8],
+    from: usize,
+    layout: Layout,
+    slots: usize,
+    room: usize,
+    entries: usize,
+    payload: usize,
+    there: bool,
+    numbers: &mut [u64; 12],
+    counts: &mut [u64; 3],
+) -> Said
+    ensures { λ r. ⌜ answerOf r (now (numbers .exit)) (now (counts .exit)) ≡ answerAs (endedAs (judgeOf (now (s .entry)) slots room (gathered (now (numbers .entry)) (now (counts .entry)) there entries payload) (piecesOf layout (now (s .entry)) from))) ⌝ }
+{
+    let mut at = from;
+    let mut pc = table::FIELD_COUNT;
+    let mut reps: u64 = 0;
+    let mut body = table::FIELD_COUNT;
+    let mut run = layout.first;
+    let mut n = entries;
+    let mut p = payload;
+    let mut present = there;
+    loop {
+        let f = items::next(layout, pc, reps, body, run);
+        pc = f.pc;
+        body = f.body;
+        run = f.run;
+        if f.kind == table::END {
+            return Said::Fine {
+                kind: 0,
+                ends: at,
+                ends2: 0,
+                entries: n,
+                payload: p,
+                present,
+            };
+        }
+        if f.kind == items::QUIET {
+            reps = f.reps;
+        } else {
+            let k = feed(s, at, f, slots, room, n, p);
+            match k {
+                Fed::Refused { which, place } => {
+                    return refuse(which, place, numbers, counts);
+                }
+                Fed::Past {
+                    at: next,
+                    entries: more,
+                    payload: total,
+                    reps: times,
+                    slot,
+                    value,
+                } => {
+                    present = note(numbers, counts, present, slot, value);
+                    at = next;
+                    n = more;
+                    p = total;
+                    reps = times;
+                }
+            }
+        }
+    }
+}
+
+// The same with a record by value, and a whole answer: for what is not read at every call.
+pub fn judge_record(
+    s: &[u8],
+    from: usize,
+    layout: Layout,
+    slots: usize,
+    room: usize,
+    sofar: Record,
+) -> Answer
+    ensures { λ r. ⌜ r ≡ answerAs (endedAs (judgeOf (now (s .entry)) slots room sofar (piecesOf layout (now (s .entry)) from))) ⌝ }
+{
+    let mut numbers = sofar.numbers;
+    let mut counts = sofar.counts;
+    let said = judge(
+        s,
+        from,
+        layout,
+        slots,
+        room,
+        sofar.entries,
+        sofar.payload,
+        sofar.present,
+        &mut numbers,
+        &mut counts,
+    );
+    answer_of(said, numbers, counts)
 }

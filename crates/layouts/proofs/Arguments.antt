@@ -142,7 +142,7 @@ found f g (x ∷ os) c o m e = by (eqb (x .code) c) refl e (found f g os c o (cc
         rw (← y) (z, eqb-true (x .code) c t)
     by false t q h = h q
 
--- computed of all 37: F is last, and the answered field is S
+-- computed of all operations: F is last, and the answered field is S
 last-F : map (λ (o : Operation). lastF (o .arguments)) operations ≡ map (λ (o : Operation). true) operations
 unfolding operations
 last-F = refl

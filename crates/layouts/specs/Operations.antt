@@ -1,4 +1,4 @@
--- The table of the 37 operations: number, arguments, reply, and the kinds of their answers. The letters are document 01's: N, S, S*, P, F with the slot of the
+-- The table of the operations: number, arguments, reply, and the kinds of their answers. The letters are document 01's: N, S, S*, P, F with the slot of the
 -- record, and small ones for what is dropped or passed over.
 use Prim.Native.Nat.{ℕ, max}
 use mathlib.Core.List.{List, [], _∷_, _++_, map}

@@ -1,4 +1,39 @@
-// The exact rules, as definitions (`specs/`) and theorems about them (`proofs/`). The code is one type, which the readers of the crates above fill.
+// The exact rules, as definitions (`specs/`) and theorems about them (`proofs/`). The code is what the crates above share: the numbers
+// of the refusals, and one type, which the readers fill.
+
+// A piece needs more bytes than remain.
+pub const CUT_SHORT: u64 = 1;
+
+// A length above the limit.
+pub const TOO_LONG: u64 = 2;
+
+// A decoded string is not RFC 3629 text.
+pub const BAD_TEXT: u64 = 3;
+
+// A kept string has no slot.
+pub const NO_ENTRY_ROOM: u64 = 4;
+
+// A chunk does not fit in what is left.
+pub const NO_PAYLOAD_ROOM: u64 = 5;
+
+// The client's magic, the daemon's; and a handshake whose last number is not Last.
+pub const CLIENT_MAGIC_WRONG: u64 = 6;
+
+pub const DAEMON_MAGIC_WRONG: u64 = 7;
+
+pub const NOT_LAST: u64 = 8;
+
+// The number is in no row of the table.
+pub const UNKNOWN_OPERATION: u64 = 9;
+
+// A writer's whole output does not fit.
+pub const OUTPUT_FULL: u64 = 10;
+
+// An index, or a count, above the slots.
+pub const NO_SUCH_ENTRY: u64 = 11;
+
+// An entry passes the end of the bytes.
+pub const BAD_ENTRY: u64 = 12;
 
 // What a layout says: twelve numbers, three counts, whether a group that a flag decides is there, how many entries, how many payload bytes.
 pub struct Record {

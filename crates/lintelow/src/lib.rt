@@ -36,10 +36,21 @@ pub extern "C" fn lintelow_read_op_args(
     ensures payload { λ r. ⌜ now (payload .exit) ≡ payloadAfter (guarded (now (block .entry)) (argumentsRead op (version major minor) (now (s .entry)) (now (entries .entry)) (now (payload .entry)))) (now (s .entry)) (run (argumentsTree op (version major minor)) (now (s .entry)) 0) (now (payload .entry)) ⌝ }
 {
     if block.len() < block::BLOCK {
-        return output::OUTPUT_FULL;
+        return layouts::OUTPUT_FULL;
     }
-    let arguments = protocol_bytes::read_op_args(op, major, minor, s, entries, payload);
-    block::put(block, arguments)
+    let mut numbers = [0u64; 12];
+    let mut counts = [0u64; 3];
+    let said = protocol_bytes::read_op_args(
+        op,
+        major,
+        minor,
+        s,
+        entries,
+        payload,
+        &mut numbers,
+        &mut counts,
+    );
+    block::put(block, judge::answer_of(said, numbers, counts))
 }
 
 #[no_mangle]
@@ -58,10 +69,21 @@ pub extern "C" fn lintelow_read_daemon_result(
     ensures payload { λ r. ⌜ now (payload .exit) ≡ payloadAfter (guarded (now (block .entry)) (replyRead op (version major minor) (now (s .entry)) (now (entries .entry)) (now (payload .entry)))) (now (s .entry)) (run (replyTree op (version major minor)) (now (s .entry)) 0) (now (payload .entry)) ⌝ }
 {
     if block.len() < block::BLOCK {
-        return output::OUTPUT_FULL;
+        return layouts::OUTPUT_FULL;
     }
-    let reply = protocol_bytes::read_daemon_result(op, major, minor, s, entries, payload);
-    block::put(block, reply)
+    let mut numbers = [0u64; 12];
+    let mut counts = [0u64; 3];
+    let said = protocol_bytes::read_daemon_result(
+        op,
+        major,
+        minor,
+        s,
+        entries,
+        payload,
+        &mut numbers,
+        &mut counts,
+    );
+    block::put(block, judge::answer_of(said, numbers, counts))
 }
 
 // No room is lent: start and length of the one string are numbers 1 and 2 of the block's twelve.
@@ -115,7 +137,7 @@ pub extern "C" fn lintelow_read_stderr_with_error(
     ensures entries { λ r. ⌜ now (entries .exit) ≡ bytesAfter (guarded (now (block .entry)) (readStderrWithError (now (s .entry)) (length (now (entries .entry)) / 16))) (errorPieces (now (s .entry)) (stderrLoop (now (s .entry)))) (now (entries .entry)) ⌝ }
 {
     if block.len() < block::BLOCK {
-        return output::OUTPUT_FULL;
+        return layouts::OUTPUT_FULL;
     }
     let told = stderr::read_stderr_with_error_bytes(s, entries);
     block::put(block, told)
@@ -133,7 +155,7 @@ pub extern "C" fn lintelow_parse_handshake(
     ensures entries { λ r. ⌜ now (entries .exit) ≡ lentAfter (guarded (now (block .entry)) (parseHandshake (now (client .entry)) (now (daemon .entry)) (length (now (entries .entry)) / 16))) (bytesOf (heardEntries (hear handshake (now (client .entry)) (now (daemon .entry)) 0 0 blank))) (now (entries .entry)) ⌝ }
 {
     if block.len() < block::BLOCK {
-        return output::OUTPUT_FULL;
+        return layouts::OUTPUT_FULL;
     }
     let greeted = handshake_bytes::parse_handshake_bytes(client, daemon, entries);
     block::put(block, greeted)
@@ -152,7 +174,7 @@ pub extern "C" fn lintelow_parse_daemon_handshake(
     ensures entries { λ r. ⌜ now (entries .exit) ≡ lentAfter (guarded (now (block .entry)) (parseDaemonHandshake (version major minor) (now (daemon .entry)) (length (now (entries .entry)) / 16))) (bytesOf (heardEntries (hear (daemonHandshake (version major minor)) [] (now (daemon .entry)) 0 0 blank))) (now (entries .entry)) ⌝ }
 {
     if block.len() < block::BLOCK {
-        return output::OUTPUT_FULL;
+        return layouts::OUTPUT_FULL;
     }
     let heard = handshake_bytes::parse_daemon_handshake_bytes(major, minor, daemon, entries);
     block::put(block, heard)

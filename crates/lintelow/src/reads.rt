@@ -89,7 +89,7 @@ pub extern "C" fn lintelow_read_string_set(
     ensures entries { λ r. ⌜ now (entries .exit) ≡ lentAfter (guarded (now (block .entry)) (readStringSet (now (s .entry)) at (length (now (entries .entry)) / 16))) (bytesOf (entriesOf (run (field (set kept (asCount 0))) (now (s .entry)) at))) (now (entries .entry)) ⌝ }
 {
     if block.len() < block::BLOCK {
-        return output::OUTPUT_FULL;
+        return layouts::OUTPUT_FULL;
     }
     let a = wire_bytes::read_string_set(s, at, entries);
     block::put(block, a)
@@ -117,7 +117,7 @@ pub extern "C" fn lintelow_read_framed(
     ensures payload { λ r. ⌜ now (payload .exit) ≡ lentAfter (guarded (now (block .entry)) (readFramed (now (s .entry)) at (length (now (payload .entry))))) (payloadOf (now (s .entry)) (run (field framed) (now (s .entry)) at)) (now (payload .entry)) ⌝ }
 {
     if block.len() < block::BLOCK {
-        return output::OUTPUT_FULL;
+        return layouts::OUTPUT_FULL;
     }
     let c = Cursor { at };
     let r = c.read_framed(s, payload);

@@ -15,7 +15,7 @@ pub extern "C" fn lintelow_write_u64(out: &mut [u8], x: u64, block: &mut [u8]) -
     ensures out { λ r. ⌜ now (out .exit) ≡ lentAfter (guarded (now (block .entry)) (writing (numberBytes x) (now (out .entry)))) (numberBytes x) (now (out .entry)) ⌝ }
 {
     if block.len() < block::BLOCK {
-        return output::OUTPUT_FULL;
+        return layouts::OUTPUT_FULL;
     }
     let r = writers::write_u64(out, x);
     block::put(block, answers::write(r))
@@ -28,7 +28,7 @@ pub extern "C" fn lintelow_write_u32(out: &mut [u8], x: u32, block: &mut [u8]) -
     ensures out { λ r. ⌜ now (out .exit) ≡ lentAfter (guarded (now (block .entry)) (writing (littleEnd 4 x) (now (out .entry)))) (littleEnd 4 x) (now (out .entry)) ⌝ }
 {
     if block.len() < block::BLOCK {
-        return output::OUTPUT_FULL;
+        return layouts::OUTPUT_FULL;
     }
     let r = writers::write_u32(out, x);
     block::put(block, answers::write(r))
@@ -41,7 +41,7 @@ pub extern "C" fn lintelow_write_bytes(out: &mut [u8], c: &[u8], block: &mut [u8
     ensures out { λ r. ⌜ now (out .exit) ≡ lentAfter (guarded (now (block .entry)) (writing (stringBytes (now (c .entry))) (now (out .entry)))) (stringBytes (now (c .entry))) (now (out .entry)) ⌝ }
 {
     if block.len() < block::BLOCK {
-        return output::OUTPUT_FULL;
+        return layouts::OUTPUT_FULL;
     }
     let r = writers::write_bytes(out, c);
     block::put(block, answers::write(r))
@@ -54,7 +54,7 @@ pub extern "C" fn lintelow_write_string(out: &mut [u8], c: &[u8], block: &mut [u
     ensures out { λ r. ⌜ now (out .exit) ≡ lentAfter (guarded (now (block .entry)) (writeString (now (c .entry)) (now (out .entry)))) (stringBytes (now (c .entry))) (now (out .entry)) ⌝ }
 {
     if block.len() < block::BLOCK {
-        return output::OUTPUT_FULL;
+        return layouts::OUTPUT_FULL;
     }
     let r = writers::write_string(out, c);
     block::put(block, answers::write(r))
@@ -73,7 +73,7 @@ pub extern "C" fn lintelow_write_string_set(
     ensures out { λ r. ⌜ now (out .exit) ≡ lentAfter (guarded (now (block .entry)) (writeStringSet (now (bytes .entry)) (entriesIn (now (entries .entry))) count (now (out .entry)))) (outputOf (textsOf (now (bytes .entry)) (entriesIn (now (entries .entry))) count)) (now (out .entry)) ⌝ }
 {
     if block.len() < block::BLOCK {
-        return output::OUTPUT_FULL;
+        return layouts::OUTPUT_FULL;
     }
     let r = set_bytes::write_string_set(out, bytes, entries, count);
     block::put(block, answers::write(r))
@@ -86,7 +86,7 @@ pub extern "C" fn lintelow_write_framed(out: &mut [u8], c: &[u8], block: &mut [u
     ensures out { λ r. ⌜ now (out .exit) ≡ lentAfter (guarded (now (block .entry)) (writing (framedBytes (now (c .entry))) (now (out .entry)))) (framedBytes (now (c .entry))) (now (out .entry)) ⌝ }
 {
     if block.len() < block::BLOCK {
-        return output::OUTPUT_FULL;
+        return layouts::OUTPUT_FULL;
     }
     let r = writers::write_framed(out, c);
     block::put(block, answers::write(r))
@@ -99,7 +99,7 @@ pub extern "C" fn lintelow_write_mode(out: &mut [u8], n: u64, block: &mut [u8]) 
     ensures out { λ r. ⌜ now (out .exit) ≡ lentAfter (guarded (now (block .entry)) (writing (modeText n) (now (out .entry)))) (modeText n) (now (out .entry)) ⌝ }
 {
     if block.len() < block::BLOCK {
-        return output::OUTPUT_FULL;
+        return layouts::OUTPUT_FULL;
     }
     let r = writers::write_mode(out, n);
     block::put(block, answers::write(r))
@@ -112,7 +112,7 @@ pub extern "C" fn lintelow_write_paths(out: &mut [u8], n: u64, block: &mut [u8])
     ensures out { λ r. ⌜ now (out .exit) ≡ lentAfter (guarded (now (block .entry)) (writing (pathsText n) (now (out .entry)))) (pathsText n) (now (out .entry)) ⌝ }
 {
     if block.len() < block::BLOCK {
-        return output::OUTPUT_FULL;
+        return layouts::OUTPUT_FULL;
     }
     let r = writers::write_paths(out, n);
     block::put(block, answers::write(r))
@@ -125,7 +125,7 @@ pub extern "C" fn lintelow_write_overrides(out: &mut [u8], n: u64, block: &mut [
     ensures out { λ r. ⌜ now (out .exit) ≡ lentAfter (guarded (now (block .entry)) (writing (overridesText n) (now (out .entry)))) (overridesText n) (now (out .entry)) ⌝ }
 {
     if block.len() < block::BLOCK {
-        return output::OUTPUT_FULL;
+        return layouts::OUTPUT_FULL;
     }
     let r = writers::write_overrides(out, n);
     block::put(block, answers::write(r))

@@ -1,1 +1,3 @@
 pub mod Search
+pub mod Shapes
+pub mod Unique

@@ -1,46 +1,43 @@
--- The search for a row: the rows before a place are others.
-use Prim.Native.Nat.{ℕ, suc, _+_, _≤_, _<_}
-use mathlib.Core.Path.{_≡_, refl, _∙_}
-use mathlib.Core.List.{List}
-use native.Mathlib.Omega.{arith}
-use native.Mathlib.Numerals.{add-one}
-use borrow.Author.Tests.{eq-eqb, ne-eqb}
-use mir.Val.{Fits}
-use mir.Syntax.{w64}
-use lib.Dec.{eqb}
-use lib.ListN.{length, getD, drop, drop-of-length-le}
-use lib.Seq.{drop-cons}
+-- An arm of the match, and its last.
+use Prim.Native.Nat.{ℕ}
+use mathlib.Core.Path.{_≡_, refl, sym, _∙_, ap, subst}
+use mathlib.Core.List.{List, [], _∷_}
+use mathlib.Core.Bool.{Bool}
 use Rattle.layouts.specs.Primitive.{pick}
-use Rattle.table.specs.declared.Row as R
+use borrow.Author.Tests.{ne-eqb}
+use Rattle.table.specs.declared.Row.{Row}
+use Rattle.table.specs.declared.Found.{Found}
 use Rattle.table.specs.declared.Found.the-variants as F
-use Rattle.table.specs.Table.{findIn}
+use Rattle.table.specs.Packed.{rows}
+use Rattle.table.specs.Table.{findIn, rowFor}
+use Rattle.operations.specs.declared.Shape.{Shape}
+use Rattle.operations.specs.declared.Shape.the-variants.{Unknown, At}
+use Rattle.operations.specs.Rows.{unpacked, rowOf, shapeOf}
 
-abbrev none : R.Row
-none = record { number = 0; arguments = 0; skipped = 0; reply = 0; «arguments_kind» = 0; «skipped_kind» = 0; «reply_kind» = 0 }
+-- op is the number of no row, as the last arm of a match is told
+abbrev pub Missed : List Row → ℕ → Type 0 → Type 0
+Missed [] op T = T
+Missed (r ∷ rs) op T = Missed rs op (T × (op ≡ r .number → ⊥))
 
-module _ (rs : List R.Row) (op : ℕ) where
-  -- i rows are passed, and are others
-  pub record Passed (i : ℕ) : Type 0 where
-    pub within : i ≤ length rs
-    pub rest : findIn rs op ≡ findIn (drop i rs) op
+missed : (rs : List Row) (op : ℕ) (T : Type 0) → Missed rs op T → (F.Unknown ≡ findIn rs op) × T
+unfolding findIn
+missed [] op T m = (refl, m)
+missed (r ∷ rs) op T m =
+    let h = missed rs op (T × (op ≡ r .number → ⊥)) m in
+    (rw (ne-eqb (r .number) op (λ e. h .1 .1 (sym e))) (h .0), h .1 .0)
 
-  pub passed-none : Passed 0
-  passed-none = record { within = omega arith; rest = refl }
+pub none : (op : ℕ) → Missed rows op (Unit {0}) → rowOf op 0 ≡ rowFor op
+unfolding rowFor rowOf
+none op m = missed rows op (Unit {0}) m .0
 
-  step : (i : ℕ) → i < length rs → findIn (drop i rs) op ≡ pick (eqb (getD rs i none .number) op) (F.Row (getD rs i none)) (findIn (drop (suc i) rs) op)
-  unfolding findIn
-  step i h = rw (drop-cons rs i none h)
+pub arm : {op k : ℕ} (x : ℕ) → op ≡ k → rowOf k x ≡ rowFor k → rowOf op x ≡ rowFor op
+arm x e h = subst (λ (i : ℕ). rowOf i x ≡ rowFor i) (sym e) h
 
-  module _ (i : ℕ) (d : Passed i) (h : i < length rs) where
-    pub passed-more : (getD rs i none .number ≡ op → ⊥) → Passed (i + 1)
-    passed-more e = record { within = omega arith; rest = d .rest ∙ step i h ∙ simp (ne-eqb (getD rs i none .number) op e, add-one) }
+module _ (first kind : Row → ℕ) (op x : ℕ) (e : rowOf op x ≡ rowFor op) where
+  pub no-row : x ≡ 0 → Unknown ≡ shapeOf first kind (rowFor op)
+  unfolding rowOf
+  no-row z = subst (λ (y : ℕ). shapeOf first kind (rowOf op y) ≡ shapeOf first kind (rowFor op)) z (ap (shapeOf first kind) e)
 
-    pub passed-found : getD rs i none .number ≡ op → findIn rs op ≡ F.Row (getD rs i none)
-    passed-found e = d .rest ∙ step i h ∙ simp (eq-eqb (getD rs i none .number) op e)
-
-  pub passed-all : (i : ℕ) → Passed i → length rs ≤ i → findIn rs op ≡ F.Unknown
-  unfolding findIn
-  passed-all i d h = d .rest ∙ simp (drop-of-length-le rs {i = i} h)
-
-pub one-on : {i : ℕ} → i < 37 → Fits w64 (i + 1)
-one-on h = omega arith
+  pub a-row : (x ≡ 0 → ⊥) → At (first (unpacked op x)) (kind (unpacked op x)) ≡ shapeOf first kind (rowFor op)
+  unfolding rowOf
+  a-row z = ap (λ (b : Bool). shapeOf first kind (pick b F.Unknown (F.Row (unpacked op x)))) (sym (ne-eqb x 0 z)) ∙ ap (shapeOf first kind) e

@@ -1,357 +1,54 @@
-// The table of the 37 operations: number, layouts and kinds of each.
+// The shapes of an operation by its number. The constant table itself is `rows`; reading it is passed on here.
+mod codes;
+
 ghost use mathlib.Core.Path.{_≡_};
 ghost use Rattle.table.specs.Table.{rowFor};
-use table::Found;
-use table::Row;
+ghost use Rattle.operations.specs.Rows.{argumentsOf, skippedOf, replyOf};
+pub use rows::row_at;
 
-const OPS: [Row; 37] = [
-    Row {
-        number: 1,
-        arguments: 0,
-        skipped: 0,
-        reply: 2,
-        arguments_kind: 1,
-        skipped_kind: 2,
-        reply_kind: 1,
-    },
-    Row {
-        number: 6,
-        arguments: 0,
-        skipped: 0,
-        reply: 4,
-        arguments_kind: 1,
-        skipped_kind: 2,
-        reply_kind: 6,
-    },
-    Row {
-        number: 7,
-        arguments: 6,
-        skipped: 8,
-        reply: 10,
-        arguments_kind: 32,
-        skipped_kind: 2,
-        reply_kind: 33,
-    },
-    Row {
-        number: 8,
-        arguments: 12,
-        skipped: 14,
-        reply: 0,
-        arguments_kind: 12,
-        skipped_kind: 1,
-        reply_kind: 2,
-    },
-    Row {
-        number: 9,
-        arguments: 16,
-        skipped: 18,
-        reply: 2,
-        arguments_kind: 5,
-        skipped_kind: 3,
-        reply_kind: 1,
-    },
-    Row {
-        number: 10,
-        arguments: 0,
-        skipped: 0,
-        reply: 2,
-        arguments_kind: 1,
-        skipped_kind: 2,
-        reply_kind: 1,
-    },
-    Row {
-        number: 11,
-        arguments: 0,
-        skipped: 0,
-        reply: 2,
-        arguments_kind: 1,
-        skipped_kind: 2,
-        reply_kind: 1,
-    },
-    Row {
-        number: 12,
-        arguments: 0,
-        skipped: 0,
-        reply: 2,
-        arguments_kind: 2,
-        skipped_kind: 2,
-        reply_kind: 1,
-    },
-    Row {
-        number: 13,
-        arguments: 20,
-        skipped: 20,
-        reply: 2,
-        arguments_kind: 6,
-        skipped_kind: 1,
-        reply_kind: 1,
-    },
-    Row {
-        number: 14,
-        arguments: 20,
-        skipped: 20,
-        reply: 22,
-        arguments_kind: 6,
-        skipped_kind: 1,
-        reply_kind: 7,
-    },
-    Row {
-        number: 18,
-        arguments: 0,
-        skipped: 0,
-        reply: 0,
-        arguments_kind: 1,
-        skipped_kind: 2,
-        reply_kind: 2,
-    },
-    Row {
-        number: 19,
-        arguments: 24,
-        skipped: 26,
-        reply: 1,
-        arguments_kind: 7,
-        skipped_kind: 34,
-        reply_kind: 0,
-    },
-    Row {
-        number: 20,
-        arguments: 28,
-        skipped: 30,
-        reply: 32,
-        arguments_kind: 8,
-        skipped_kind: 1,
-        reply_kind: 8,
-    },
-    Row {
-        number: 21,
-        arguments: 0,
-        skipped: 0,
-        reply: 34,
-        arguments_kind: 18,
-        skipped_kind: 2,
-        reply_kind: 35,
-    },
-    Row {
-        number: 22,
-        arguments: 0,
-        skipped: 0,
-        reply: 4,
-        arguments_kind: 1,
-        skipped_kind: 2,
-        reply_kind: 6,
-    },
-    Row {
-        number: 23,
-        arguments: 20,
-        skipped: 20,
-        reply: 4,
-        arguments_kind: 6,
-        skipped_kind: 1,
-        reply_kind: 6,
-    },
-    Row {
-        number: 26,
-        arguments: 0,
-        skipped: 0,
-        reply: 36,
-        arguments_kind: 1,
-        skipped_kind: 2,
-        reply_kind: 36,
-    },
-    Row {
-        number: 28,
-        arguments: 0,
-        skipped: 0,
-        reply: 4,
-        arguments_kind: 1,
-        skipped_kind: 2,
-        reply_kind: 6,
-    },
-    Row {
-        number: 29,
-        arguments: 0,
-        skipped: 0,
-        reply: 0,
-        arguments_kind: 2,
-        skipped_kind: 2,
-        reply_kind: 2,
-    },
-    Row {
-        number: 30,
-        arguments: 4,
-        skipped: 38,
-        reply: 40,
-        arguments_kind: 19,
-        skipped_kind: 3,
-        reply_kind: 7,
-    },
-    Row {
-        number: 31,
-        arguments: 42,
-        skipped: 44,
-        reply: 4,
-        arguments_kind: 4,
-        skipped_kind: 3,
-        reply_kind: 6,
-    },
-    Row {
-        number: 32,
-        arguments: 4,
-        skipped: 38,
-        reply: 4,
-        arguments_kind: 3,
-        skipped_kind: 3,
-        reply_kind: 6,
-    },
-    Row {
-        number: 33,
-        arguments: 0,
-        skipped: 0,
-        reply: 4,
-        arguments_kind: 1,
-        skipped_kind: 2,
-        reply_kind: 6,
-    },
-    Row {
-        number: 34,
-        arguments: 20,
-        skipped: 20,
-        reply: 2,
-        arguments_kind: 6,
-        skipped_kind: 1,
-        reply_kind: 1,
-    },
-    Row {
-        number: 35,
-        arguments: 46,
-        skipped: 48,
-        reply: 2,
-        arguments_kind: 9,
-        skipped_kind: 1,
-        reply_kind: 1,
-    },
-    Row {
-        number: 36,
-        arguments: 20,
-        skipped: 20,
-        reply: 50,
-        arguments_kind: 0,
-        skipped_kind: 0,
-        reply_kind: 0,
-    },
-    Row {
-        number: 37,
-        arguments: 52,
-        skipped: 54,
-        reply: 2,
-        arguments_kind: 11,
-        skipped_kind: 2,
-        reply_kind: 1,
-    },
-    Row {
-        number: 38,
-        arguments: 0,
-        skipped: 0,
-        reply: 56,
-        arguments_kind: 1,
-        skipped_kind: 2,
-        reply_kind: 37,
-    },
-    Row {
-        number: 39,
-        arguments: 20,
-        skipped: 20,
-        reply: 1,
-        arguments_kind: 0,
-        skipped_kind: 0,
-        reply_kind: 0,
-    },
-    Row {
-        number: 40,
-        arguments: 4,
-        skipped: 38,
-        reply: 58,
-        arguments_kind: 3,
-        skipped_kind: 3,
-        reply_kind: 11,
-    },
-    Row {
-        number: 41,
-        arguments: 0,
-        skipped: 0,
-        reply: 22,
-        arguments_kind: 1,
-        skipped_kind: 2,
-        reply_kind: 7,
-    },
-    Row {
-        number: 42,
-        arguments: 0,
-        skipped: 0,
-        reply: 1,
-        arguments_kind: 16,
-        skipped_kind: 2,
-        reply_kind: 0,
-    },
-    Row {
-        number: 43,
-        arguments: 0,
-        skipped: 0,
-        reply: 4,
-        arguments_kind: 17,
-        skipped_kind: 2,
-        reply_kind: 6,
-    },
-    Row {
-        number: 44,
-        arguments: 60,
-        skipped: 48,
-        reply: 1,
-        arguments_kind: 14,
-        skipped_kind: 1,
-        reply_kind: 0,
-    },
-    Row {
-        number: 45,
-        arguments: 62,
-        skipped: 0,
-        reply: 2,
-        arguments_kind: 15,
-        skipped_kind: 2,
-        reply_kind: 1,
-    },
-    Row {
-        number: 46,
-        arguments: 16,
-        skipped: 18,
-        reply: 64,
-        arguments_kind: 5,
-        skipped_kind: 3,
-        reply_kind: 0,
-    },
-    Row {
-        number: 47,
-        arguments: 66,
-        skipped: 68,
-        reply: 0,
-        arguments_kind: 10,
-        skipped_kind: 1,
-        reply_kind: 2,
-    },
-];
+// A shape of an operation: its first run in the table, and the code of its kinds.
+pub enum Shape {
+    Unknown,
+    At { first: usize, kind: u8 },
+}
 
-// The table is copied once, before the loop: used in it, it is built anew at each turn.
-pub fn find(op: u64) -> Found
-    ensures { λ r. ⌜ r ≡ rowFor op ⌝ }
+// A row is packed as a number: a byte each for the runs of arguments, skipped arguments and reply, and for the kinds of the three; then 1. 0 is no row. A call
+// needs one shape, and a whole row would go through memory.
+pub fn arguments(op: u64) -> Shape
+    ensures { λ r. ⌜ r ≡ argumentsOf (rowFor op) ⌝ }
 {
-    let ops = OPS;
-    let mut i: usize = 0;
-    while i < 37 {
-        let row = ops[i];
-        if row.number == op {
-            return Found::Row(row);
-        }
-        i += 1;
+    let x = codes::row_code(op);
+    if x == 0 {
+        return Shape::Unknown;
     }
-    Found::Unknown
+    Shape::At {
+        first: (x % 256) as usize,
+        kind: (x / 16777216 % 256) as u8,
+    }
+}
+
+pub fn skipped(op: u64) -> Shape
+    ensures { λ r. ⌜ r ≡ skippedOf (rowFor op) ⌝ }
+{
+    let x = codes::row_code(op);
+    if x == 0 {
+        return Shape::Unknown;
+    }
+    Shape::At {
+        first: (x / 256 % 256) as usize,
+        kind: (x / 4294967296 % 256) as u8,
+    }
+}
+
+pub fn reply(op: u64) -> Shape
+    ensures { λ r. ⌜ r ≡ replyOf (rowFor op) ⌝ }
+{
+    let x = codes::row_code(op);
+    if x == 0 {
+        return Shape::Unknown;
+    }
+    Shape::At {
+        first: (x / 65536 % 256) as usize,
+        kind: (x / 1099511627776 % 256) as u8,
+    }
 }

@@ -2,7 +2,7 @@
 ghost use mathlib.Core.Path.{_≡_};
 ghost use Rattle.layouts.specs.Calls.{hasFramed, opHasClientFramedData};
 ghost use Rattle.ops.specs.Ops.{meaning};
-use table::Found;
+use operations::Shape;
 
 const ADD_TO_STORE: u64 = 7;
 
@@ -11,9 +11,6 @@ const ADD_TO_STORE_NAR: u64 = 39;
 const ADD_MULTIPLE_TO_STORE: u64 = 44;
 
 const ADD_BUILD_LOG: u64 = 45;
-
-// The refusal of a number that is no operation's.
-const UNKNOWN_OPERATION: u64 = 9;
 
 pub enum Framed {
     Yes,
@@ -34,13 +31,13 @@ fn has_framed(op: u64) -> bool
 pub fn op_has_client_framed_data(op: u64) -> Framed
     ensures { λ r. ⌜ meaning r ≡ opHasClientFramedData op ⌝ }
 {
-    let found = operations::find(op);
+    let found = operations::arguments(op);
     match found {
-        Found::Unknown => Framed::Refused {
-            which: UNKNOWN_OPERATION,
+        Shape::Unknown => Framed::Refused {
+            which: layouts::UNKNOWN_OPERATION,
             place: 0,
         },
-        Found::Row(_row) => {
+        Shape::At { first: _, kind: _ } => {
             if has_framed(op) {
                 return Framed::Yes;
             }

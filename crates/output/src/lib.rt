@@ -8,9 +8,6 @@ ghost use Rattle.layouts.specs.Primitive.{numberBytes, padOf};
 ghost use Rattle.layouts.specs.Writers.{stringBytes};
 ghost use Rattle.output.specs.Placed.{placed};
 
-// The refusal of an output that does not fit.
-pub const OUTPUT_FULL: u64 = 10;
-
 // The length of what was written at the start of the lent bytes, or a refusal, which leaves them as they were.
 pub enum Written {
     Length(usize),

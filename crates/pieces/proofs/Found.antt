@@ -30,12 +30,12 @@ text-known size n at m e = subst (TextSays size n at) (sym e) (text-says (text-v
 
 abbrev ChunkSays : (size n at : ℕ) → Chunk → Type 0
 ChunkSays size n at (part start len next) = (start ≡ at + 8) × (next ≡ start + len) × (next ≤ size)
-ChunkSays size n at (last next) = next ≤ size
+ChunkSays size n at (last next) = (next ≡ at + 8) × (next ≤ size)
 ChunkSays size n at (wrong which place) = Unit {0}
 
 chunk-says : {size n at : ℕ} {m : Chunk} → ChunkView size n at m → ChunkSays size n at m
 chunk-says (no-size h) = tt
-chunk-says (is-last h z) = h
+chunk-says (is-last h z) = (refl, h)
 chunk-says (too-large h l) = tt
 chunk-says (no-bytes h z l c) = tt
 chunk-says (is-part h z l) = (refl, refl, h)

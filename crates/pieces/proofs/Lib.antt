@@ -2,5 +2,6 @@
 pub mod Fields
 pub mod Numbers
 pub mod Found
+pub mod Nodes
 pub mod Strings
 pub mod Unique

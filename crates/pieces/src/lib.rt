@@ -12,13 +12,6 @@ use number::Number;
 
 pub const MAX_WIRE_STRING_LEN: u64 = 268435456;
 
-// Refusals: a piece needs more bytes than remain, a length above the limit, contents that are no text.
-pub const CUT_SHORT: u64 = 1;
-
-const TOO_LONG: u64 = 2;
-
-pub const BAD_TEXT: u64 = 3;
-
 // A string whose contents are whole and whose padding is not is a case of its own: its text is judged before its padding.
 pub enum Text {
     Whole {
@@ -91,13 +84,13 @@ pub fn text_at(s: &[u8], at: usize) -> Text
 {
     match number_at(s, at) {
         Number::Short => Text::Bad {
-            which: CUT_SHORT,
+            which: layouts::CUT_SHORT,
             place: at,
         },
         Number::Value(n) => {
             if MAX_WIRE_STRING_LEN < n {
                 return Text::Bad {
-                    which: TOO_LONG,
+                    which: layouts::TOO_LONG,
                     place: at,
                 };
             }
@@ -106,7 +99,7 @@ pub fn text_at(s: &[u8], at: usize) -> Text
             let left = s.len() - start;
             if left < len {
                 return Text::Bad {
-                    which: CUT_SHORT,
+                    which: layouts::CUT_SHORT,
                     place: start,
                 };
             }
@@ -125,7 +118,7 @@ pub fn chunk_at(s: &[u8], at: usize) -> Chunk
 {
     match number_at(s, at) {
         Number::Short => Chunk::Wrong {
-            which: CUT_SHORT,
+            which: layouts::CUT_SHORT,
             place: at,
         },
         Number::Value(n) => {
@@ -135,14 +128,14 @@ pub fn chunk_at(s: &[u8], at: usize) -> Chunk
             }
             if MAX_WIRE_STRING_LEN < n {
                 return Chunk::Wrong {
-                    which: TOO_LONG,
+                    which: layouts::TOO_LONG,
                     place: at,
                 };
             }
             let len = n as usize;
             if s.len() - body < len {
                 return Chunk::Wrong {
-                    which: CUT_SHORT,
+                    which: layouts::CUT_SHORT,
                     place: body,
                 };
             }
@@ -178,19 +171,19 @@ pub fn string_at(s: &[u8], at: usize, decoded: bool) -> Judged
                 return Judged::Fine { start, len, next };
             }
             Judged::Refused {
-                which: BAD_TEXT,
+                which: layouts::BAD_TEXT,
                 place: start,
             }
         }
         Text::Half { start, len } => {
             if is_fine(s, start, len, decoded) {
                 return Judged::Refused {
-                    which: CUT_SHORT,
+                    which: layouts::CUT_SHORT,
                     place: start + len,
                 };
             }
             Judged::Refused {
-                which: BAD_TEXT,
+                which: layouts::BAD_TEXT,
                 place: start,
             }
         }

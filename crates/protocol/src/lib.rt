@@ -9,12 +9,11 @@ ghost use Rattle.layouts.specs.Calls.{argumentsTree, skippedTree, replyTree, sk
 ghost use Rattle.judge.specs.Judged.{answerAs};
 ghost use Rattle.skip.specs.Skipped.{skipped};
 ghost use Rattle.protocol.specs.Protocol.{argumentsRead, replyRead, argumentsAs};
+use items::Layout;
 use judge::Answer;
 use judge::Outcome;
+use operations::Shape;
 use skip::Skipped;
-use table::Found;
-
-pub const UNKNOWN_OPERATION: u64 = 9;
 
 // What skipped arguments answer: a kind, where they end, a count ("N paths", "N overrides") or one string, by start and length of its contents.
 pub struct Arguments {
@@ -38,15 +37,17 @@ pub fn read_op_args(
     ensures entries { λ r. ⌜ now (entries .exit) ≡ entriesAfter (argumentsRead op (version major minor) (now (s .entry)) (now (entries .entry)) (now (payload .entry))) (run (argumentsTree op (version major minor)) (now (s .entry)) 0) (now (entries .entry)) ⌝ }
     ensures payload { λ r. ⌜ now (payload .exit) ≡ payloadAfter (argumentsRead op (version major minor) (now (s .entry)) (now (entries .entry)) (now (payload .entry))) (now (s .entry)) (run (argumentsTree op (version major minor)) (now (s .entry)) 0) (now (payload .entry)) ⌝ }
 {
-    let f = operations::find(op);
+    let f = operations::arguments(op);
     match f {
-        Found::Unknown => judge::refused_answer(UNKNOWN_OPERATION, 0),
-        Found::Row(row) => reading::read(
+        Shape::Unknown => judge::refused_answer(layouts::UNKNOWN_OPERATION, 0),
+        Shape::At { first, kind } => reading::read_words(
             s,
-            major,
-            minor,
-            row.arguments,
-            row.arguments_kind,
+            Layout {
+                major,
+                minor,
+                first,
+            },
+            kind,
             entries,
             payload,
         ),
@@ -58,11 +59,11 @@ pub fn skip_op_args(op: u64, major: u16, minor: u8, s: &[u8]) -> Arguments
     ensures { λ r. ⌜ r ≡ argumentsAs (skipOpArgs op (version major minor) (now (s .entry))) (entriesOf (run (skippedTree op (version major minor)) (now (s .entry)) 0)) ⌝ }
 {
     let mut entry: [u64; 2] = [0u64; 2];
-    let f = operations::find(op);
+    let f = operations::skipped(op);
     match f {
-        Found::Unknown => Arguments {
+        Shape::Unknown => Arguments {
             outcome: Outcome::Refused {
-                which: UNKNOWN_OPERATION,
+                which: layouts::UNKNOWN_OPERATION,
                 place: 0,
                 stream: 0,
             },
@@ -72,14 +73,16 @@ pub fn skip_op_args(op: u64, major: u16, minor: u8, s: &[u8]) -> Arguments
             start: 0,
             len: 0,
         },
-        Found::Row(row) => {
+        Shape::At { first, kind } => {
             let mut nothing: [u8; 0] = [];
-            let r = reading::read(
+            let r = reading::read_words(
                 s,
-                major,
-                minor,
-                row.skipped,
-                row.skipped_kind,
+                Layout {
+                    major,
+                    minor,
+                    first,
+                },
+                kind,
                 &mut entry,
                 &mut nothing,
             );
@@ -109,15 +112,17 @@ pub fn read_daemon_result(
     ensures entries { λ r. ⌜ now (entries .exit) ≡ entriesAfter (replyRead op (version major minor) (now (s .entry)) (now (entries .entry)) (now (payload .entry))) (run (replyTree op (version major minor)) (now (s .entry)) 0) (now (entries .entry)) ⌝ }
     ensures payload { λ r. ⌜ now (payload .exit) ≡ payloadAfter (replyRead op (version major minor) (now (s .entry)) (now (entries .entry)) (now (payload .entry))) (now (s .entry)) (run (replyTree op (version major minor)) (now (s .entry)) 0) (now (payload .entry)) ⌝ }
 {
-    let f = operations::find(op);
+    let f = operations::reply(op);
     match f {
-        Found::Unknown => judge::refused_answer(UNKNOWN_OPERATION, 0),
-        Found::Row(row) => reading::read(
+        Shape::Unknown => judge::refused_answer(layouts::UNKNOWN_OPERATION, 0),
+        Shape::At { first, kind } => reading::read_words(
             s,
-            major,
-            minor,
-            row.reply,
-            row.reply_kind,
+            Layout {
+                major,
+                minor,
+                first,
+            },
+            kind,
             entries,
             payload,
         ),
@@ -128,12 +133,20 @@ pub fn read_daemon_result(
 pub fn skip_daemon_result(op: u64, major: u16, minor: u8, s: &[u8]) -> Skipped
     ensures { λ r. ⌜ skipped r ≡ skipDaemonResult op (version major minor) (now (s .entry)) ⌝ }
 {
-    let f = operations::find(op);
+    let f = operations::reply(op);
     match f {
-        Found::Unknown => Skipped::Refused {
-            which: UNKNOWN_OPERATION,
+        Shape::Unknown => Skipped::Refused {
+            which: layouts::UNKNOWN_OPERATION,
             place: 0,
         },
-        Found::Row(row) => skip::skip(s, 0, major, minor, row.reply),
+        Shape::At { first, kind: _ } => skip::skip(
+            s,
+            0,
+            Layout {
+                major,
+                minor,
+                first,
+            },
+        ),
     }
 }

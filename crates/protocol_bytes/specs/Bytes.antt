@@ -3,11 +3,9 @@ use Prim.Native.Nat.{ℕ, _/_}
 use mathlib.Core.List.{List}
 use lib.ListN.{length}
 use Rattle.layouts.specs.Primitive.{Version, Result}
-use Rattle.layouts.specs.Record.{blank}
 use Rattle.layouts.specs.Pieces.{Pieces}
-use Rattle.layouts.specs.Judge.{Ended, judgeOf, entriesOf, lentAfter}
+use Rattle.layouts.specs.Judge.{entriesOf, lentAfter}
 use Rattle.layouts.specs.Calls.{Answer, readOpArgs, readDaemonResult}
-use Rattle.walk.specs.Walk.{layoutPieces}
 use Rattle.output.specs.Numbers.{bytesOf}
 
 abbrev pub argumentsRead : (op : ℕ) → Version → (s entries payload : List ℕ) → Result Answer
@@ -15,9 +13,6 @@ argumentsRead op v s entries payload = readOpArgs op v s (length entries / 16) (
 
 abbrev pub replyRead : (op : ℕ) → Version → (s entries payload : List ℕ) → Result Answer
 replyRead op v s entries payload = readDaemonResult op v s (length entries / 16) (length payload)
-
-abbrev pub runRead : Version → (run : ℕ) → (s entries payload : List ℕ) → Result Ended
-runRead v i s entries payload = judgeOf s (length entries / 16) (length payload) blank (layoutPieces v i s 0)
 
 -- lent bytes after a read of these pieces
 abbrev pub bytesAfter : {A : Type 0} → Result A → Pieces → (lent : List ℕ) → List ℕ

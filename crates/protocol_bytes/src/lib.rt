@@ -2,52 +2,12 @@
 ghost use mathlib.Core.Path.{_≡_};
 ghost use Rattle.layouts.specs.Primitive.{version};
 ghost use Rattle.layouts.specs.Pieces.{run};
-ghost use Rattle.layouts.specs.Judge.{entriesOf, payloadOf, lentAfter};
 ghost use Rattle.layouts.specs.Calls.{argumentsTree, replyTree, payloadAfter};
-ghost use Rattle.walk.specs.Walk.{layoutPieces};
-ghost use Rattle.output.specs.Numbers.{bytesOf};
-ghost use Rattle.judge.specs.Judged.{answerAs};
-ghost use Rattle.reading.specs.Reading.{answeredAs, fronted, Reported};
-ghost use Rattle.protocol_bytes.specs.Bytes.{argumentsRead, replyRead, runRead, bytesAfter};
-use judge::Answer;
-use judge::Outcome;
-use table::Found;
-
-// Where nothing is kept no second walk is needed.
-fn fill_entries(s: &[u8], major: u16, minor: u8, run: usize, kept: usize, entries: &mut [u8])
-    requires { ⌜ Reported kept (bytesOf (entriesOf (layoutPieces (version major minor) run (now s) 0))) (now entries) ⌝ }
-    ensures { λ r. ⌜ now (entries .exit) ≡ fronted (bytesOf (entriesOf (layoutPieces (version major minor) run (now (s .entry)) 0))) (now (entries .entry)) ⌝ }
-{
-    if 0 < kept {
-        fill::fill_entry_bytes(s, 0, major, minor, run, entries, 0);
-        return;
-    }
-}
-
-// What is judged fine is filled in.
-fn read(
-    s: &[u8],
-    major: u16,
-    minor: u8,
-    run: usize,
-    code: u8,
-    entries: &mut [u8],
-    payload: &mut [u8],
-) -> Answer
-    ensures answer { λ r. ⌜ r ≡ answerAs (answeredAs (version major minor) code (runRead (version major minor) run (now (s .entry)) (now (entries .entry)) (now (payload .entry)))) ⌝ }
-    ensures entries { λ r. ⌜ now (entries .exit) ≡ lentAfter (runRead (version major minor) run (now (s .entry)) (now (entries .entry)) (now (payload .entry))) (bytesOf (entriesOf (layoutPieces (version major minor) run (now (s .entry)) 0))) (now (entries .entry)) ⌝ }
-    ensures payload { λ r. ⌜ now (payload .exit) ≡ lentAfter (runRead (version major minor) run (now (s .entry)) (now (entries .entry)) (now (payload .entry))) (payloadOf (now (s .entry)) (layoutPieces (version major minor) run (now (s .entry)) 0)) (now (payload .entry)) ⌝ }
-{
-    let slots = entries.len() / 16;
-    let a = reading::read_payload(s, major, minor, run, code, slots, payload);
-    let found = a.found;
-    let o = a.outcome;
-    let Outcome::Fine = o else {
-        return a;
-    };
-    fill_entries(s, major, minor, run, found.entries, entries);
-    a
-}
+ghost use Rattle.judge.specs.Judged.{answerOf, answerAs};
+ghost use Rattle.protocol_bytes.specs.Bytes.{argumentsRead, replyRead, bytesAfter};
+use items::Layout;
+use judge::Said;
+use operations::Shape;
 
 pub fn read_op_args(
     op: u64,
@@ -56,22 +16,28 @@ pub fn read_op_args(
     s: &[u8],
     entries: &mut [u8],
     payload: &mut [u8],
-) -> Answer
-    ensures answer { λ r. ⌜ r ≡ answerAs (argumentsRead op (version major minor) (now (s .entry)) (now (entries .entry)) (now (payload .entry))) ⌝ }
+    numbers: &mut [u64; 12],
+    counts: &mut [u64; 3],
+) -> Said
+    ensures answer { λ r. ⌜ answerOf r (now (numbers .exit)) (now (counts .exit)) ≡ answerAs (argumentsRead op (version major minor) (now (s .entry)) (now (entries .entry)) (now (payload .entry))) ⌝ }
     ensures entries { λ r. ⌜ now (entries .exit) ≡ bytesAfter (argumentsRead op (version major minor) (now (s .entry)) (now (entries .entry)) (now (payload .entry))) (run (argumentsTree op (version major minor)) (now (s .entry)) 0) (now (entries .entry)) ⌝ }
     ensures payload { λ r. ⌜ now (payload .exit) ≡ payloadAfter (argumentsRead op (version major minor) (now (s .entry)) (now (entries .entry)) (now (payload .entry))) (now (s .entry)) (run (argumentsTree op (version major minor)) (now (s .entry)) 0) (now (payload .entry)) ⌝ }
 {
-    let f = operations::find(op);
+    let f = operations::arguments(op);
     match f {
-        Found::Unknown => judge::refused_answer(protocol::UNKNOWN_OPERATION, 0),
-        Found::Row(row) => read(
+        Shape::Unknown => judge::refuse(layouts::UNKNOWN_OPERATION, 0, numbers, counts),
+        Shape::At { first, kind } => reading::read_bytes(
             s,
-            major,
-            minor,
-            row.arguments,
-            row.arguments_kind,
+            Layout {
+                major,
+                minor,
+                first,
+            },
+            kind,
             entries,
             payload,
+            numbers,
+            counts,
         ),
     }
 }
@@ -83,14 +49,28 @@ pub fn read_daemon_result(
     s: &[u8],
     entries: &mut [u8],
     payload: &mut [u8],
-) -> Answer
-    ensures answer { λ r. ⌜ r ≡ answerAs (replyRead op (version major minor) (now (s .entry)) (now (entries .entry)) (now (payload .entry))) ⌝ }
+    numbers: &mut [u64; 12],
+    counts: &mut [u64; 3],
+) -> Said
+    ensures answer { λ r. ⌜ answerOf r (now (numbers .exit)) (now (counts .exit)) ≡ answerAs (replyRead op (version major minor) (now (s .entry)) (now (entries .entry)) (now (payload .entry))) ⌝ }
     ensures entries { λ r. ⌜ now (entries .exit) ≡ bytesAfter (replyRead op (version major minor) (now (s .entry)) (now (entries .entry)) (now (payload .entry))) (run (replyTree op (version major minor)) (now (s .entry)) 0) (now (entries .entry)) ⌝ }
     ensures payload { λ r. ⌜ now (payload .exit) ≡ payloadAfter (replyRead op (version major minor) (now (s .entry)) (now (entries .entry)) (now (payload .entry))) (now (s .entry)) (run (replyTree op (version major minor)) (now (s .entry)) 0) (now (payload .entry)) ⌝ }
 {
-    let f = operations::find(op);
+    let f = operations::reply(op);
     match f {
-        Found::Unknown => judge::refused_answer(protocol::UNKNOWN_OPERATION, 0),
-        Found::Row(row) => read(s, major, minor, row.reply, row.reply_kind, entries, payload),
+        Shape::Unknown => judge::refuse(layouts::UNKNOWN_OPERATION, 0, numbers, counts),
+        Shape::At { first, kind } => reading::read_bytes(
+            s,
+            Layout {
+                major,
+                minor,
+                first,
+            },
+            kind,
+            entries,
+            payload,
+            numbers,
+            counts,
+        ),
     }
 }

@@ -1,14 +1,15 @@
 -- A judged layout, filled: what it reports fits, and is what `layouts` says of lent memory.
-use Prim.Native.Nat.{ℕ, _+_, _*_, _≤_}
-use mathlib.Core.Path.{_≡_, refl, sym, _∙_, ap}
-use mathlib.Core.List.{List, [], _∷_}
-use mathlib.Core.Bool.{Bool}
+use Prim.Native.Nat.{ℕ, _+_, _*_, _/_, _≤_}
+use mathlib.Core.Path.{_≡_, refl, sym, _∙_, ap, subst}
+use mathlib.Core.List.{List, [], _∷_, _++_, append-nil}
+use mathlib.Core.Bool.{Bool, false}
 use native.Mathlib.Omega.{arith}
-use lib.ListN.{length}
+use lib.ListN.{length, drop, replicate}
+use lib.Seq.{sets, sets-eq}
 use Rattle.layouts.specs.declared.Record.{Record}
 use Rattle.layouts.specs.Primitive.{Version, Result, ok, refused}
-use Rattle.layouts.specs.Shape.{Tree}
-use Rattle.layouts.specs.Pieces.{run, totalOf}
+use Rattle.layouts.specs.Shape.{Tree, stop}
+use Rattle.layouts.specs.Pieces.{Pieces, end, run, totalOf}
 use Rattle.layouts.specs.Record.{blank}
 use Rattle.layouts.specs.Judge.{Ended, judgeOf, entriesOf, payloadOf, lentAfter}
 use Rattle.layouts.specs.Soft.{keptOf}
@@ -17,107 +18,159 @@ use Rattle.layouts.specs.Calls.{Answer, answered}
 use Rattle.layouts.proofs.Judge.{Read, judge-read, record-room, entries-length, payload-length}
 use Rattle.layouts.proofs.Placed.{run-placed}
 use Rattle.table.specs.Table.{kindNumbered}
-use Rattle.judge.specs.declared.Outcome.{Outcome}
-use Rattle.judge.specs.declared.Outcome.the-variants.{Fine, Refused}
-use Rattle.judge.specs.declared.Judged.{Judged}
+use Rattle.items.specs.declared.Layout.{Layout}
+use Rattle.items.specs.Items.{versionOf, layoutTree, piecesOf}
+use Rattle.judge.specs.declared.Said.{Said}
+use Rattle.judge.specs.declared.Said.the-variants as S
 use Rattle.judge.specs.declared.Answer as C
-use Rattle.judge.specs.Judged.{judgedAs, answerAs}
-use Rattle.judge.proofs.Answers.{fine-ended, refused-ended, answer-fine, refused-keeps}
+use Rattle.judge.specs.Judged.{gathered, answerOf, answerAs, endedAs}
+use Rattle.judge.proofs.Answers.{said-fine, said-refused, ended-fine, ended-refused}
 use Rattle.output.specs.Numbers.{bytesOf}
 use Rattle.output.proofs.Numbers.{bytes-none, bytes-length}
 use Rattle.fill.specs.Fill.{Put}
-use Rattle.fill.proofs.Room.{put-all}
-use Rattle.reading.specs.Reading.{answeredAs, fronted, Reported}
+use Rattle.reading.specs.Reading.{readBy, answeredAs, slotsIn, filledAfter, NoneReported}
 
 none-there : (xs : List ℕ) → length xs ≡ 0 → xs ≡ []
 none-there [] e = refl
 none-there (x ∷ xs) e = absurd (omega arith)
 
--- an answer by its kind's code, without the kind
-abbrev endedIn : Result Answer → Result Ended
-endedIn (ok x) = ok (record { found = x .found; ends = x .ends })
-endedIn (refused which place stream) = refused which place stream
-
-module _ (t : Tree) (s : List ℕ) (slots payload : ℕ) (v : Version) (c : ℕ) where
+-- ---- the judgement of a layout
+module _ (l : Layout) (s : List ℕ) (slots room : ℕ) (c : ℕ) where
   abbrev said : Result Ended
-  said = judgeOf s slots payload blank (run t s 0)
+  said = readBy l s slots room
 
-  -- the judgement of a layout, as it is answered
-  module _ (e₀ : Record) (b : e₀ ≡ blank) (a : Judged) (j : a ≡ judgedAs (judgeOf s slots payload e₀ (run t s 0))) where
-    judged-is : a ≡ judgedAs said
-    judged-is = j ∙ ap (λ (r : Record). judgedAs (judgeOf s slots payload r (run t s 0))) b
+  module _ (x : Ended) (e : said ≡ ok x) where
+    reads : Read slots room blank (piecesOf l s 0) x
+    reads = judge-read s slots room blank (piecesOf l s 0) x e
 
-    pub read-refused : (which place stream : ℕ) → a .outcome ≡ Refused which place stream
-        → _≡_ {A = C.Answer} (record { outcome = a .outcome; kind = 0; ends = 0; ends2 = 0; found = a .found }) (answerAs (answeredAs v c said))
-    read-refused which place stream f =
-        let r = refused-ended a said which place stream judged-is f in
-        ap (λ (x : Judged). record { outcome = x .outcome; kind = 0; ends = 0; ends2 = 0; found = x .found }) (judged-is ∙ ap judgedAs r) ∙
-        ap (λ (o : Result Ended). answerAs (answeredAs v c o)) (sym r)
+    pub strings-fit : length (entriesOf (piecesOf l s 0)) ≤ 2 * slots
+    strings-fit =
+        let g = reads .fits (omega arith) (omega arith) in
+        let n = entries-length (piecesOf l s 0) in
+        omega (arith, g)
 
-    pub read-fine : a .outcome ≡ Fine → (k : ℕ) → k ≡ kindNumbered v (a .found .present) c
-        → _≡_ {A = C.Answer} (record { outcome = a .outcome; kind = k; ends = a .ends; ends2 = 0; found = a .found }) (answerAs (answeredAs v c said))
-    read-fine f k q =
-        ap (λ (o : Outcome). record { outcome = o; kind = k; ends = a .ends; ends2 = 0; found = a .found }) f ∙
-        ap (λ (n : ℕ). record { outcome = Fine; kind = n; ends = a .ends; ends2 = 0; found = a .found }) q ∙
-        ap (λ (o : Result Ended). answerAs (answeredAs v c o)) (sym (fine-ended a said judged-is f))
+    pub payload-fits : length (payloadOf s (piecesOf l s 0)) ≤ room
+    payload-fits =
+        let g = reads .fits (omega arith) (omega arith) in
+        let n = payload-length s (run-placed (layoutTree l) s 0 (omega arith)) in
+        omega (arith, g)
 
-  answered-ended : (o : Result Ended) → endedIn (answeredAs v c o) ≡ o
-  answered-ended (ok x) = refl
-  answered-ended (refused which place stream) = refl
+    reported : NoneReported (x .found .entries) (x .found .payload) s (piecesOf l s 0)
+    reported =
+        let n = entries-length (piecesOf l s 0) in
+        let m = payload-length s (run-placed (layoutTree l) s 0 (omega arith)) in
+        let k : x .found .entries ≡ 0 + keptOf (piecesOf l s 0) = ap (λ (r : Record). r .entries) (reads .holds) ∙ record-room blank (piecesOf l s 0) .0 in
+        let t : x .found .payload ≡ 0 + totalOf (piecesOf l s 0) = ap (λ (r : Record). r .payload) (reads .holds) ∙ record-room blank (piecesOf l s 0) .1 in
+        record { strings = λ z. none-there (entriesOf (piecesOf l s 0)) (omega arith); chunks = λ z. none-there (payloadOf s (piecesOf l s 0)) (omega arith) }
 
-  answered-lent : (o : Result Ended) (new lent : List ℕ) → lentAfter (answeredAs v c o) new lent ≡ lentAfter o new lent
-  answered-lent (ok x) new lent = refl
-  answered-lent (refused which place stream) new lent = refl
+  -- a layout without fields
+  module _ (z : layoutTree l ≡ stop) where
+    nothing-is : said ≡ ok (record { found = blank; ends = 0 })
+    unfolding run judgeOf
+    nothing-is = ap (λ (t : Tree). judgeOf s slots room blank (run t s 0)) z
 
-  -- lent memory, by that answer
-  module _ (r : C.Answer) (q : r ≡ answerAs (answeredAs v c said)) where
-    pub lent-kept : (which place stream : ℕ) → r .outcome ≡ Refused which place stream → (new lent : List ℕ) → lent ≡ lentAfter said new lent
-    lent-kept which place stream f new lent =
-        sym (refused-keeps r (answeredAs v c said) q which place stream f new lent _ refl) ∙ answered-lent said new lent
+    pub read-nothing : (k : ℕ) → k ≡ kindNumbered (versionOf l) false c → answerOf (S.Fine k 0 0 0 0 false) (replicate 12 0) (replicate 3 0) ≡ answerAs (answeredAs (versionOf l) c said)
+    read-nothing k e = ap (λ (x : ℕ). answerOf (S.Fine x 0 0 0 0 false) (replicate 12 0) (replicate 3 0)) e ∙ ap (λ (o : Result Ended). answerAs (answeredAs (versionOf l) c o)) (sym nothing-is)
 
-    module _ (f : r .outcome ≡ Fine) where
-      fine-is : said ≡ ok (record { found = r .found; ends = r .ends })
-      fine-is = sym (answered-ended said) ∙ ap endedIn (answer-fine r (answeredAs v c said) q f)
+    pub nothing-filled : (f : Pieces → List ℕ) → f (end 0) ≡ [] → (lent : List ℕ) → lent ≡ filledAfter said (f (piecesOf l s 0)) lent
+    unfolding run
+    nothing-filled f e lent =
+        ap (sets lent 0) (sym (ap (λ (t : Tree). f (run t s 0)) z ∙ e)) ∙ ap (λ (o : Result Ended). filledAfter o (f (piecesOf l s 0)) lent) (sym nothing-is)
 
-      reads : Read slots payload blank (run t s 0) (record { found = r .found; ends = r .ends })
-      reads = judge-read s slots payload blank (run t s 0) (record { found = r .found; ends = r .ends }) fine-is
+    pub nothing-lent : (words bytes payload : List ℕ)
+        → (words ≡ filledAfter said (entriesOf (piecesOf l s 0)) words) ×
+        ((bytes ≡ filledAfter said (bytesOf (entriesOf (piecesOf l s 0))) bytes) × (payload ≡ filledAfter said (payloadOf s (piecesOf l s 0)) payload))
+    unfolding entriesOf payloadOf
+    nothing-lent words bytes payload =
+        (nothing-filled entriesOf refl words, (nothing-filled (λ p. bytesOf (entriesOf p)) bytes-none bytes, nothing-filled (payloadOf s) refl payload))
 
-      entries-held : (r .found .entries ≡ 0 → entriesOf (run t s 0) ≡ []) × (length (entriesOf (run t s 0)) ≤ 2 * slots)
-      entries-held =
-          let g = reads .fits (omega arith) (omega arith) in
-          let l = entries-length (run t s 0) in
-          let k : r .found .entries ≡ 0 + keptOf (run t s 0) = ap (λ (x : Record). x .entries) (reads .holds) ∙ record-room blank (run t s 0) .0 in
-          ((λ z. none-there (entriesOf (run t s 0)) (omega arith)), omega (arith, g))
+  module _ (a : Said) (ns cs : List ℕ) (j : answerOf a ns cs ≡ answerAs (endedAs said)) where
+    module _ (which place stream : ℕ) (q : a ≡ S.Refused which place stream) where
+      refused-is : said ≡ refused which place stream
+      refused-is = ended-refused said which place stream (said-refused a ns cs (endedAs said) j which place stream q)
 
-      pub entries-reported : (entries : List ℕ) → 2 * slots ≤ length entries → Reported (r .found .entries) (entriesOf (run t s 0)) entries
-      entries-reported entries h = record { none = entries-held .0; room = let l = entries-held .1 in omega arith }
+      pub read-refused : answerOf a ns cs ≡ answerAs (answeredAs (versionOf l) c said)
+      read-refused = j ∙ ap (λ (o : Result Ended). answerAs (endedAs o)) refused-is ∙ ap (λ (o : Result Ended). answerAs (answeredAs (versionOf l) c o)) (sym refused-is)
 
-      pub bytes-reported : (entries : List ℕ) → 16 * slots ≤ length entries → Reported (r .found .entries) (bytesOf (entriesOf (run t s 0))) entries
-      bytes-reported entries h =
-          record {
-            none = λ z. ap bytesOf (entries-held .0 z) ∙ bytes-none;
-            room = let l = entries-held .1 in let m = bytes-length (entriesOf (run t s 0)) in omega arith;
-          }
+      pub lent-kept : (new lent : List ℕ) → lent ≡ filledAfter said new lent
+      lent-kept new lent = ap (λ (o : Result Ended). filledAfter o new lent) (sym refused-is)
 
-      pub payload-reported : (room : List ℕ) → payload ≡ length room → Reported (r .found .payload) (payloadOf s (run t s 0)) room
-      payload-reported room h =
-          let g = reads .fits (omega arith) (omega arith) in
-          let l = payload-length s (run-placed t s 0 (omega arith)) in
-          let k : r .found .payload ≡ 0 + totalOf (run t s 0) = ap (λ (x : Record). x .payload) (reads .holds) ∙ record-room blank (run t s 0) .1 in
-          record { none = λ z. none-there (payloadOf s (run t s 0)) (omega arith); room = omega (arith, g) }
+    module _ (kind ends ends2 n p : ℕ) (b : Bool) (q : a ≡ S.Fine kind ends ends2 n p b) where
+      fine-is : said ≡ ok (record { found = gathered ns cs b n p; ends = ends })
+      fine-is = ended-fine said _ (said-fine a ns cs (endedAs said) j kind ends ends2 n p b q)
 
-      pub lent-fronted : (new lent out : List ℕ) → out ≡ fronted new lent → out ≡ lentAfter said new lent
-      lent-fronted new lent out h = h ∙ ap (λ (o : Result Ended). lentAfter o new lent) (sym fine-is)
+      pub none-reported : NoneReported n p s (piecesOf l s 0)
+      none-reported = reported (record { found = gathered ns cs b n p; ends = ends }) fine-is
 
--- the fillers
-module _ (n : ℕ) (new lent : List ℕ) (r : Reported n new lent) where
-  pub filled-none : n ≤ 0 → lent ≡ fronted new lent
-  filled-none h = let z : n ≡ 0 = omega arith in rw (r .none z)
+      pub read-fine : (k : ℕ) → k ≡ kindNumbered (versionOf l) b c → answerOf (S.Fine k ends 0 n p b) ns cs ≡ answerAs (answeredAs (versionOf l) c said)
+      read-fine k e = ap (λ (x : ℕ). answerOf (S.Fine x ends 0 n p b) ns cs) e ∙ ap (λ (o : Result Ended). answerAs (answeredAs (versionOf l) c o)) (sym fine-is)
 
-  pub filled-all : (out : List ℕ) (k : ℕ) → Put lent 0 new out k → out ≡ fronted new lent
-  filled-all out k p = put-all lent new out k p (r .room)
+      pub lent-filled : (new lent out : List ℕ) → out ≡ sets lent 0 new → out ≡ filledAfter said new lent
+      lent-filled new lent out h = h ∙ ap (λ (o : Result Ended). filledAfter o new lent) (sym fine-is)
 
--- kinds by their code
+-- ---- what fits is all there
+fitting : {A : Type 0} (o : Result A) (new lent : List ℕ) → ((x : A) → o ≡ ok x → length new ≤ length lent) → filledAfter o new lent ≡ lentAfter o new lent
+fitting (ok x) new lent h =
+    let e : 0 + length new ≡ length new = omega arith in
+    let g = h x refl in
+    sets-eq new lent 0 (omega arith) ∙ ap (λ (n : ℕ). new ++ drop n lent) e
+fitting (refused which place stream) new lent h = refl
+
+-- with one of the two rooms for entries
+module _ (l : Layout) (s payload : List ℕ) (c : ℕ) where
+  abbrev all : ℕ → Result Ended
+  all slots = readBy l s slots (length payload)
+
+  module _ (words : List ℕ) where
+    words-only : slotsIn words [] ≡ length words / 2
+    words-only = omega arith
+
+    pub words-answer : (a : C.Answer) → a ≡ answerAs (answeredAs (versionOf l) c (all (slotsIn words []))) → a ≡ answerAs (answeredAs (versionOf l) c (all (length words / 2)))
+    words-answer a h = h ∙ ap (λ (n : ℕ). answerAs (answeredAs (versionOf l) c (all n))) words-only
+
+    pub words-lent : (out : List ℕ) → out ≡ filledAfter (all (slotsIn words [])) (entriesOf (piecesOf l s 0)) words → out ≡ lentAfter (all (length words / 2)) (entriesOf (piecesOf l s 0)) words
+    words-lent out h =
+        let n = length words / 2 in
+        h ∙ ap (λ (n : ℕ). filledAfter (all n) (entriesOf (piecesOf l s 0)) words) words-only ∙
+        fitting (all n) _ words (λ x q. let f = strings-fit l s n (length payload) 0 x q in omega arith)
+
+    pub words-payload : (out : List ℕ) → out ≡ filledAfter (all (slotsIn words [])) (payloadOf s (piecesOf l s 0)) payload → out ≡ lentAfter (all (length words / 2)) (payloadOf s (piecesOf l s 0)) payload
+    words-payload out h =
+        h ∙ ap (λ (n : ℕ). filledAfter (all n) (payloadOf s (piecesOf l s 0)) payload) words-only ∙ fitting (all (length words / 2)) _ payload (λ x q. payload-fits l s (length words / 2) (length payload) 0 x q)
+
+  module _ (bytes : List ℕ) where
+    bytes-only : slotsIn [] bytes ≡ length bytes / 16
+    bytes-only = omega arith
+
+    pub bytes-answer : (a : C.Answer) → a ≡ answerAs (answeredAs (versionOf l) c (all (slotsIn [] bytes))) → a ≡ answerAs (answeredAs (versionOf l) c (all (length bytes / 16)))
+    bytes-answer a h = h ∙ ap (λ (n : ℕ). answerAs (answeredAs (versionOf l) c (all n))) bytes-only
+
+    pub bytes-lent : (out : List ℕ) → out ≡ filledAfter (all (slotsIn [] bytes)) (bytesOf (entriesOf (piecesOf l s 0))) bytes → out ≡ lentAfter (all (length bytes / 16)) (bytesOf (entriesOf (piecesOf l s 0))) bytes
+    bytes-lent out h =
+        let n = length bytes / 16 in
+        let m = bytes-length (entriesOf (piecesOf l s 0)) in
+        h ∙ ap (λ (n : ℕ). filledAfter (all n) (bytesOf (entriesOf (piecesOf l s 0))) bytes) bytes-only ∙
+        fitting (all n) _ bytes (λ x q. let f = strings-fit l s n (length payload) 0 x q in omega arith)
+
+    pub bytes-payload : (out : List ℕ) → out ≡ filledAfter (all (slotsIn [] bytes)) (payloadOf s (piecesOf l s 0)) payload → out ≡ lentAfter (all (length bytes / 16)) (payloadOf s (piecesOf l s 0)) payload
+    bytes-payload out h =
+        h ∙ ap (λ (n : ℕ). filledAfter (all n) (payloadOf s (piecesOf l s 0)) payload) bytes-only ∙ fitting (all (length bytes / 16)) _ payload (λ x q. payload-fits l s (length bytes / 16) (length payload) 0 x q)
+
+-- ---- the filler: where nothing is reported, nothing is there
+pub put-sets : (lent : List ℕ) (new out : List ℕ) (k : ℕ) → Put lent 0 new out k → out ≡ sets lent 0 new
+put-sets lent new out k p = p .then [] ∙ ap (sets lent 0) (append-nil new)
+
+module _ (entries total : ℕ) (s : List ℕ) (p : Pieces) (h : NoneReported entries total s p) (a : entries ≤ 0) (b : total ≤ 0) where
+  pub no-words : (lent : List ℕ) → lent ≡ sets lent 0 (entriesOf p)
+  no-words lent = ap (sets lent 0) (sym (h .strings (omega arith)))
+
+  pub no-bytes : (lent : List ℕ) → lent ≡ sets lent 0 (bytesOf (entriesOf p))
+  no-bytes lent = ap (sets lent 0) (sym (ap bytesOf (h .strings (omega arith)) ∙ bytes-none))
+
+  pub no-payload : (lent : List ℕ) → lent ≡ sets lent 0 (payloadOf s p)
+  no-payload lent = ap (sets lent 0) (sym (h .chunks (omega arith)))
+
+-- ---- kinds by their code
 module _ (v : Version) (k : Kinds) (c : ℕ) (e : (b : Bool) → kindOf v b k ≡ kindNumbered v b c) where
   pub answered-by : (o : Result Ended) → answeredAs v c o ≡ answered v k o
   answered-by (ok x) = rw (e (x .found .present))

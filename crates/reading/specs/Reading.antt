@@ -1,28 +1,35 @@
--- The layout at a run as `layouts` reads it, as the code answers it.
-use Prim.Native.Nat.{ℕ, _/_, _≤_}
+-- A layout as `layouts` reads it from the start of a stream, as the code answers it.
+use Prim.Native.Nat.{ℕ, _+_, _/_}
 use mathlib.Core.Path.{_≡_}
-use mathlib.Core.List.{List, [], _++_}
-use lib.ListN.{length, drop}
-use Rattle.layouts.specs.Primitive.{Version, Result, ok, onward}
+use mathlib.Core.List.{List, []}
+use lib.ListN.{length}
+use lib.Seq.{sets}
+use Rattle.layouts.specs.Primitive.{Version, Result, ok, refused, onward}
 use Rattle.layouts.specs.Record.{blank}
-use Rattle.layouts.specs.Judge.{Ended, judgeOf}
+use Rattle.layouts.specs.Pieces.{Pieces}
+use Rattle.layouts.specs.Judge.{Ended, judgeOf, entriesOf, payloadOf}
 use Rattle.layouts.specs.Calls.{Answer}
-use Rattle.walk.specs.Walk.{layoutPieces}
 use Rattle.table.specs.Table.{kindNumbered}
+use Rattle.items.specs.declared.Layout.{Layout}
+use Rattle.items.specs.Items.{piecesOf}
 
--- with the room of two lent slices: two numbers make a slot
-abbrev pub runRead : Version → (run : ℕ) → (s entries payload : List ℕ) → Result Ended
-runRead v i s entries payload = judgeOf s (length entries / 2) (length payload) blank (layoutPieces v i s 0)
+abbrev pub readBy : Layout → List ℕ → (slots room : ℕ) → Result Ended
+readBy l s slots room = judgeOf s slots room blank (piecesOf l s 0)
 
 -- an answer, with the kind by its code in the table
 abbrev pub answeredAs : Version → (code : ℕ) → Result Ended → Result Answer
 answeredAs v c o = onward o (λ e. ok (record { kind = kindNumbered v (e .found .present) c; ends = e .ends; ends2 = 0; found = e .found }))
 
--- lent memory with a list at its front
-abbrev pub fronted : (new lent : List ℕ) → List ℕ
-fronted new lent = new ++ drop (length new) lent
+-- two numbers make a slot, or sixteen bytes
+abbrev pub slotsIn : (words bytes : List ℕ) → ℕ
+slotsIn words bytes = length words / 2 + length bytes / 16
 
--- a judged layout reports n: none are none, and there is room for all
-pub record Reported (n : ℕ) (new lent : List ℕ) : Type 0 where
-  pub none : n ≡ 0 → new ≡ []
-  pub room : length new ≤ length lent
+-- lent memory afterwards: what is reported stands at its front, as far as it fits; a refusal changes nothing
+abbrev pub filledAfter : {A : Type 0} → Result A → (reported lent : List ℕ) → List ℕ
+filledAfter (ok a) new lent = sets lent 0 new
+filledAfter (refused which place stream) new lent = lent
+
+-- where none are reported, none are there
+pub record NoneReported (entries total : ℕ) (s : List ℕ) (p : Pieces) : Type 0 where
+  pub strings : entries ≡ 0 → entriesOf p ≡ []
+  pub chunks : total ≡ 0 → payloadOf s p ≡ []

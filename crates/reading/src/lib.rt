@@ -1,122 +1,163 @@
-// The layout that starts at a run, from the start of the stream: judged first, in a walk without writes, and only then filled in, so a refusal changes no
-// lent memory.
+// A layout from the start of the stream, by the row of an operation: judged first, without a write to the rooms, and only then filled in, so a refusal changes
+// no lent memory. Entries go into a room of numbers or into one of bytes: the other one is lent empty.
 ghost use mathlib.Core.Path.{_≡_};
+ghost use mathlib.Core.List.{[]};
+ghost use Prim.Native.Nat.{_/_};
 ghost use lib.ListN.{length};
-ghost use Rattle.layouts.specs.Primitive.{version};
-ghost use Rattle.layouts.specs.Record.{blank};
-ghost use Rattle.layouts.specs.Judge.{judgeOf, entriesOf, payloadOf, lentAfter};
-ghost use Rattle.walk.specs.Walk.{layoutPieces};
-ghost use Rattle.judge.specs.Judged.{answerAs};
-ghost use Rattle.reading.specs.Reading.{runRead, answeredAs, fronted, Reported};
+ghost use lib.Seq.{sets};
+ghost use Rattle.layouts.specs.Judge.{entriesOf, payloadOf, lentAfter};
+ghost use Rattle.items.specs.Items.{versionOf, piecesOf};
+ghost use Rattle.output.specs.Numbers.{bytesOf};
+ghost use Rattle.judge.specs.Judged.{answerOf, answerAs};
+ghost use Rattle.reading.specs.Reading.{readBy, answeredAs, slotsIn, filledAfter, NoneReported};
+use items::Layout;
 use judge::Answer;
-use judge::Outcome;
+use judge::Said;
 
-// Where nothing is kept no second walk is needed.
-fn fill_entries(s: &[u8], major: u16, minor: u8, run: usize, kept: usize, entries: &mut [u64])
-    requires { ⌜ Reported kept (entriesOf (layoutPieces (version major minor) run (now s) 0)) (now entries) ⌝ }
-    ensures { λ r. ⌜ now (entries .exit) ≡ fronted (entriesOf (layoutPieces (version major minor) run (now (s .entry)) 0)) (now (entries .entry)) ⌝ }
-{
-    if 0 < kept {
-        fill::fill_entries(s, 0, major, minor, run, entries, 0);
-        return;
-    }
-}
-
-// Where there is no payload likewise.
-fn join_payload(s: &[u8], major: u16, minor: u8, run: usize, total: usize, payload: &mut [u8])
-    requires { ⌜ Reported total (payloadOf (now s) (layoutPieces (version major minor) run (now s) 0)) (now payload) ⌝ }
-    ensures { λ r. ⌜ now (payload .exit) ≡ fronted (payloadOf (now (s .entry)) (layoutPieces (version major minor) run (now (s .entry)) 0)) (now (payload .entry)) ⌝ }
-{
-    if 0 < total {
-        fill::join_payload(s, 0, major, minor, run, payload);
-        return;
-    }
-}
-
-// Judges the layout that starts at a run, without writes, for room for so many entries and payload bytes. The kind of the answer is by its code.
-fn judge_run(
+// Where nothing is reported nothing is filled in.
+fn fill_in(
     s: &[u8],
-    major: u16,
-    minor: u8,
-    run: usize,
-    code: u8,
-    slots: usize,
-    room: usize,
-) -> Answer
-    ensures { λ r. ⌜ r ≡ answerAs (answeredAs (version major minor) code (judgeOf (now (s .entry)) slots room blank (layoutPieces (version major minor) run (now (s .entry)) 0))) ⌝ }
+    layout: Layout,
+    entries: usize,
+    total: usize,
+    words: &mut [u64],
+    bytes: &mut [u8],
+    payload: &mut [u8],
+)
+    requires { ⌜ NoneReported entries total (now s) (piecesOf layout (now s) 0) ⌝ }
+    ensures words { λ r. ⌜ now (words .exit) ≡ sets (now (words .entry)) 0 (entriesOf (piecesOf layout (now (s .entry)) 0)) ⌝ }
+    ensures bytes { λ r. ⌜ now (bytes .exit) ≡ sets (now (bytes .entry)) 0 (bytesOf (entriesOf (piecesOf layout (now (s .entry)) 0))) ⌝ }
+    ensures payload { λ r. ⌜ now (payload .exit) ≡ sets (now (payload .entry)) 0 (payloadOf (now (s .entry)) (piecesOf layout (now (s .entry)) 0)) ⌝ }
 {
-    let a = judge::judge(s, 0, major, minor, run, slots, room, judge::empty());
-    let found = a.found;
-    let o = a.outcome;
-    match o {
-        Outcome::Refused {
+    if 0 < entries {
+        fill::fill(s, 0, layout, words, 0, bytes, 0, payload);
+        return;
+    }
+    if 0 < total {
+        fill::fill(s, 0, layout, words, 0, bytes, 0, payload);
+        return;
+    }
+}
+
+// The kind of the answer is by its code. What does not fit into a room falls away.
+fn read(
+    s: &[u8],
+    layout: Layout,
+    code: u8,
+    words: &mut [u64],
+    bytes: &mut [u8],
+    payload: &mut [u8],
+    numbers: &mut [u64; 12],
+    counts: &mut [u64; 3],
+) -> Said
+    ensures answer { λ r. ⌜ answerOf r (now (numbers .exit)) (now (counts .exit)) ≡ answerAs (answeredAs (versionOf layout) code (readBy layout (now (s .entry)) (slotsIn (now (words .entry)) (now (bytes .entry))) (length (now (payload .entry))))) ⌝ }
+    ensures words { λ r. ⌜ now (words .exit) ≡ filledAfter (readBy layout (now (s .entry)) (slotsIn (now (words .entry)) (now (bytes .entry))) (length (now (payload .entry)))) (entriesOf (piecesOf layout (now (s .entry)) 0)) (now (words .entry)) ⌝ }
+    ensures bytes { λ r. ⌜ now (bytes .exit) ≡ filledAfter (readBy layout (now (s .entry)) (slotsIn (now (words .entry)) (now (bytes .entry))) (length (now (payload .entry)))) (bytesOf (entriesOf (piecesOf layout (now (s .entry)) 0))) (now (bytes .entry)) ⌝ }
+    ensures payload { λ r. ⌜ now (payload .exit) ≡ filledAfter (readBy layout (now (s .entry)) (slotsIn (now (words .entry)) (now (bytes .entry))) (length (now (payload .entry)))) (payloadOf (now (s .entry)) (piecesOf layout (now (s .entry)) 0)) (now (payload .entry)) ⌝ }
+{
+    *numbers = [0u64; 12];
+    *counts = [0u64; 3];
+    if items::is_empty(layout) {
+        return Said::Fine {
+            kind: kinds::kind_of(code, layout.major, layout.minor, false),
+            ends: 0,
+            ends2: 0,
+            entries: 0,
+            payload: 0,
+            present: false,
+        };
+    }
+    let slots = words.len() / 2 + bytes.len() / 16;
+    let a = judge::judge(
+        s,
+        0,
+        layout,
+        slots,
+        payload.len(),
+        0,
+        0,
+        false,
+        numbers,
+        counts,
+    );
+    match a {
+        Said::Refused {
             which: _,
             place: _,
             stream: _,
-        } => Answer {
-            outcome: o,
-            kind: 0,
-            ends: 0,
-            ends2: 0,
-            found: found,
-        },
-        Outcome::Fine => {
-            let kind = kinds::kind_of(code, major, minor, found.present);
-            Answer {
-                outcome: o,
-                kind: kind,
-                ends: a.ends,
+        } => a,
+        Said::Fine {
+            kind: _,
+            ends,
+            ends2: _,
+            entries,
+            payload: total,
+            present,
+        } => {
+            fill_in(s, layout, entries, total, words, bytes, payload);
+            Said::Fine {
+                kind: kinds::kind_of(code, layout.major, layout.minor, present),
+                ends,
                 ends2: 0,
-                found: found,
+                entries,
+                payload: total,
+                present,
             }
         }
     }
 }
 
-// The same, and what is judged fine has its payload in the room; its entries are left to the caller.
-pub fn read_payload(
+// With entries of sixteen bytes.
+pub fn read_bytes(
     s: &[u8],
-    major: u16,
-    minor: u8,
-    run: usize,
+    layout: Layout,
     code: u8,
-    slots: usize,
+    entries: &mut [u8],
     payload: &mut [u8],
-) -> Answer
-    ensures answer { λ r. ⌜ r ≡ answerAs (answeredAs (version major minor) code (judgeOf (now (s .entry)) slots (length (now (payload .entry))) blank (layoutPieces (version major minor) run (now (s .entry)) 0))) ⌝ }
-    ensures payload { λ r. ⌜ now (payload .exit) ≡ lentAfter (judgeOf (now (s .entry)) slots (length (now (payload .entry))) blank (layoutPieces (version major minor) run (now (s .entry)) 0)) (payloadOf (now (s .entry)) (layoutPieces (version major minor) run (now (s .entry)) 0)) (now (payload .entry)) ⌝ }
+    numbers: &mut [u64; 12],
+    counts: &mut [u64; 3],
+) -> Said
+    ensures answer { λ r. ⌜ answerOf r (now (numbers .exit)) (now (counts .exit)) ≡ answerAs (answeredAs (versionOf layout) code (readBy layout (now (s .entry)) (length (now (entries .entry)) / 16) (length (now (payload .entry))))) ⌝ }
+    ensures entries { λ r. ⌜ now (entries .exit) ≡ lentAfter (readBy layout (now (s .entry)) (length (now (entries .entry)) / 16) (length (now (payload .entry)))) (bytesOf (entriesOf (piecesOf layout (now (s .entry)) 0))) (now (entries .entry)) ⌝ }
+    ensures payload { λ r. ⌜ now (payload .exit) ≡ lentAfter (readBy layout (now (s .entry)) (length (now (entries .entry)) / 16) (length (now (payload .entry)))) (payloadOf (now (s .entry)) (piecesOf layout (now (s .entry)) 0)) (now (payload .entry)) ⌝ }
 {
-    let a = judge_run(s, major, minor, run, code, slots, payload.len());
-    let found = a.found;
-    let o = a.outcome;
-    let Outcome::Fine = o else {
-        return a;
-    };
-    join_payload(s, major, minor, run, found.payload, payload);
-    a
+    let mut none: [u64; 0] = [];
+    read(
+        s,
+        layout,
+        code,
+        &mut none,
+        entries,
+        payload,
+        numbers,
+        counts,
+    )
 }
 
-// What is judged fine is filled in.
-pub fn read(
+// With entries of two numbers, and a whole answer.
+pub fn read_words(
     s: &[u8],
-    major: u16,
-    minor: u8,
-    run: usize,
+    layout: Layout,
     code: u8,
     entries: &mut [u64],
     payload: &mut [u8],
 ) -> Answer
-    ensures answer { λ r. ⌜ r ≡ answerAs (answeredAs (version major minor) code (runRead (version major minor) run (now (s .entry)) (now (entries .entry)) (now (payload .entry)))) ⌝ }
-    ensures entries { λ r. ⌜ now (entries .exit) ≡ lentAfter (runRead (version major minor) run (now (s .entry)) (now (entries .entry)) (now (payload .entry))) (entriesOf (layoutPieces (version major minor) run (now (s .entry)) 0)) (now (entries .entry)) ⌝ }
-    ensures payload { λ r. ⌜ now (payload .exit) ≡ lentAfter (runRead (version major minor) run (now (s .entry)) (now (entries .entry)) (now (payload .entry))) (payloadOf (now (s .entry)) (layoutPieces (version major minor) run (now (s .entry)) 0)) (now (payload .entry)) ⌝ }
+    ensures answer { λ r. ⌜ r ≡ answerAs (answeredAs (versionOf layout) code (readBy layout (now (s .entry)) (length (now (entries .entry)) / 2) (length (now (payload .entry))))) ⌝ }
+    ensures entries { λ r. ⌜ now (entries .exit) ≡ lentAfter (readBy layout (now (s .entry)) (length (now (entries .entry)) / 2) (length (now (payload .entry)))) (entriesOf (piecesOf layout (now (s .entry)) 0)) (now (entries .entry)) ⌝ }
+    ensures payload { λ r. ⌜ now (payload .exit) ≡ lentAfter (readBy layout (now (s .entry)) (length (now (entries .entry)) / 2) (length (now (payload .entry)))) (payloadOf (now (s .entry)) (piecesOf layout (now (s .entry)) 0)) (now (payload .entry)) ⌝ }
 {
-    let slots = entries.len() / 2;
-    let a = read_payload(s, major, minor, run, code, slots, payload);
-    let found = a.found;
-    let o = a.outcome;
-    let Outcome::Fine = o else {
-        return a;
-    };
-    fill_entries(s, major, minor, run, found.entries, entries);
-    a
+    let mut none: [u8; 0] = [];
+    let mut numbers = [0u64; 12];
+    let mut counts = [0u64; 3];
+    let said = read(
+        s,
+        layout,
+        code,
+        entries,
+        &mut none,
+        payload,
+        &mut numbers,
+        &mut counts,
+    );
+    judge::answer_of(said, numbers, counts)
 }

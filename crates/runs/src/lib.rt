@@ -14,11 +14,6 @@ use pieces::Chunk;
 use pieces::Judged;
 use pieces::Text;
 
-// Refusals: a kept string has no slot, a chunk does not fit in what is left.
-const NO_ENTRY_ROOM: u64 = 4;
-
-const NO_PAYLOAD_ROOM: u64 = 5;
-
 // A run of strings, by the place after it.
 pub enum Passed {
     Past(usize),
@@ -49,7 +44,7 @@ fn strings_at(s: &[u8], from: usize, count: u64, slots: u64) -> Passed
             } => {
                 if slots <= done {
                     return Passed::Refused {
-                        which: NO_ENTRY_ROOM,
+                        which: layouts::NO_ENTRY_ROOM,
                         place: at,
                     };
                 }
@@ -76,7 +71,7 @@ pub fn frames_at(s: &[u8], from: usize, room: usize) -> Total
             } => {
                 if room - total < len {
                     return Total::Refused {
-                        which: NO_PAYLOAD_ROOM,
+                        which: layouts::NO_PAYLOAD_ROOM,
                         place: at,
                     };
                 }

@@ -23,7 +23,7 @@ fn judge_entry(bytes: &[u8], entries: &[u8], i: usize) -> Written
                 return Written::Length(output::string_length(c));
             }
             Written::Refused {
-                which: pieces::BAD_TEXT,
+                which: layouts::BAD_TEXT,
                 place: i,
             }
         }
@@ -49,7 +49,7 @@ fn fit(n: usize, room: usize) -> Written
 {
     if room < n {
         return Written::Refused {
-            which: output::OUTPUT_FULL,
+            which: layouts::OUTPUT_FULL,
             place: 0,
         };
     }
@@ -63,7 +63,7 @@ fn judge_set(bytes: &[u8], entries: &[u8], count: usize, room: usize) -> Written
 {
     if entries.len() / 16 < count {
         return Written::Refused {
-            which: views::NO_SUCH_ENTRY,
+            which: layouts::NO_SUCH_ENTRY,
             place: count,
         };
     }

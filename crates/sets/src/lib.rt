@@ -22,7 +22,7 @@ fn judge_entry(bytes: &[u8], entries: &[u64], i: usize) -> Written
                 return Written::Length(output::string_length(c));
             }
             Written::Refused {
-                which: pieces::BAD_TEXT,
+                which: layouts::BAD_TEXT,
                 place: i,
             }
         }
@@ -48,7 +48,7 @@ fn fit(n: usize, room: usize) -> Written
 {
     if room < n {
         return Written::Refused {
-            which: output::OUTPUT_FULL,
+            which: layouts::OUTPUT_FULL,
             place: 0,
         };
     }
@@ -62,7 +62,7 @@ fn judge_set(bytes: &[u8], entries: &[u64], count: usize, room: usize) -> Writte
 {
     if entries.len() / 2 < count {
         return Written::Refused {
-            which: views::NO_SUCH_ENTRY,
+            which: layouts::NO_SUCH_ENTRY,
             place: count,
         };
     }

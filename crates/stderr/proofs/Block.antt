@@ -16,14 +16,13 @@ use Rattle.layouts.specs.Calls.{Answer}
 use Rattle.layouts.specs.Stderr as L
 use Rattle.layouts.specs.Stderr.{Error, stoppedRecord, stderrLoop, stderrAnswer, ifError, errorBlock, readStderrLoop, readStderrWithError, errorPieces}
 use Rattle.layouts.proofs.Judge.{Read, judge-read, entries-length}
-use Rattle.table.specs.Packed.{errorBlockRun}
+use Rattle.table.specs.Packed as P
 use Rattle.table.specs.Table.{groupsAt}
 use Rattle.table.specs.Claims.{others}
 use Rattle.judge.specs.declared.Outcome.the-variants.{Fine, Refused}
-use Rattle.judge.specs.declared.Judged.{Judged}
 use Rattle.judge.specs.declared.Answer as C
-use Rattle.judge.specs.Judged.{judgedAs, answerAs}
-use Rattle.judge.proofs.Answers.{fine-ended, refused-ended}
+use Rattle.judge.specs.Judged.{answerAs, endedAs}
+use Rattle.judge.proofs.Answers.{answer-fine, answer-refused, ended-fine, ended-refused}
 use Rattle.output.specs.Numbers.{bytesOf}
 use Rattle.output.proofs.Numbers.{bytes-none, bytes-length}
 use Rattle.fill.specs.Fill.{Put}
@@ -36,35 +35,34 @@ use Rattle.stderr.specs.Loop.{stoppedAs, recordFor}
 abbrev answerOf : Result Ended → Result Answer
 answerOf o = onward o (λ e. stderrAnswer (e .ends) (e .found))
 
-block-at : (s : List ℕ) (at : ℕ) → run (layout (version 0 0) (groupsAt errorBlockRun)) s at ≡ run errorBlock s at
+block-at : (s : List ℕ) (at : ℕ) → run (layout (version 0 0) (groupsAt P.errorBlock)) s at ≡ run errorBlock s at
 block-at s at = ap (λ (t : Tree). run t s at) (sym (others .error))
 
-module _ (s : List ℕ) (at : ℕ) (r : Record) (slots : ℕ) (a : Judged)
-    (j : a ≡ judgedAs (judgeOf s slots 0 r (run (layout (version 0 0) (groupsAt errorBlockRun)) s at))) where
+module _ (s : List ℕ) (at : ℕ) (r : Record) (slots : ℕ) (a : C.Answer)
+    (j : a ≡ answerAs (endedAs (judgeOf s slots 0 r (run (layout (version 0 0) (groupsAt P.errorBlock)) s at)))) where
   abbrev said : Result Ended
   said = judgeOf s slots 0 r (run errorBlock s at)
 
-  judged-is : a ≡ judgedAs said
-  judged-is = j ∙ ap (λ (p : Pieces). judgedAs (judgeOf s slots 0 r p)) (block-at s at)
+  judged-is : a ≡ answerAs (endedAs said)
+  judged-is = j ∙ ap (λ (p : Pieces). answerAs (endedAs (judgeOf s slots 0 r p))) (block-at s at)
+
+  answered-as : (o : Result Ended) → endedAs o ≡ answerOf o
+  answered-as (ok x) = refl
+  answered-as (refused which place stream) = refl
+
+  pub block-answer : a ≡ answerAs (answerOf said)
+  block-answer = judged-is ∙ ap answerAs (answered-as said)
 
   module _ (which place stream : ℕ) (f : a .outcome ≡ Refused which place stream) where
     block-refused-is : said ≡ refused which place stream
-    block-refused-is = refused-ended a said which place stream judged-is f
-
-    pub block-refused : _≡_ {A = C.Answer} (record { outcome = a .outcome; kind = 0; ends = 0; ends2 = 0; found = a .found }) (answerAs (answerOf said))
-    block-refused =
-        ap (λ (x : Judged). record { outcome = x .outcome; kind = 0; ends = 0; ends2 = 0; found = x .found }) (judged-is ∙ ap judgedAs block-refused-is) ∙
-        ap (λ (o : Result Ended). answerAs (answerOf o)) (sym block-refused-is)
+    block-refused-is = ended-refused said which place stream (answer-refused a (endedAs said) which place stream judged-is f)
 
     pub block-kept : (new lent : List ℕ) → lent ≡ lentAfter said new lent
     block-kept new lent = ap (λ (o : Result Ended). lentAfter o new lent) (sym block-refused-is)
 
   module _ (f : a .outcome ≡ Fine) where
     block-fine-is : said ≡ ok (record { found = a .found; ends = a .ends })
-    block-fine-is = fine-ended a said judged-is f
-
-    pub block-fine : (x : C.Answer) → x ≡ answerAs (stderrAnswer (a .ends) (a .found)) → x ≡ answerAs (answerOf said)
-    block-fine x e = e ∙ ap (λ (o : Result Ended). answerAs (answerOf o)) (sym block-fine-is)
+    block-fine-is = ended-fine said _ (answer-fine a (endedAs said) judged-is f)
 
     block-fits : r .entries ≡ 0 → r .payload ≡ 0 → length (entriesOf (run errorBlock s at)) ≤ 2 * slots
     block-fits z y =
@@ -76,18 +74,18 @@ module _ (s : List ℕ) (at : ℕ) (r : Record) (slots : ℕ) (a : Judged)
 
     -- in a form that fits the lent room
     block-put : (form : List ℕ → List ℕ) (lent out : List ℕ) (k : ℕ) → length (form (entriesOf (run errorBlock s at))) ≤ length lent
-        → Put lent 0 (form (entriesOf (run (layout (version 0 0) (groupsAt errorBlockRun)) s at))) out k → out ≡ lentAfter said (form (entriesOf (run errorBlock s at))) lent
+        → Put lent 0 (form (entriesOf (run (layout (version 0 0) (groupsAt P.errorBlock)) s at))) out k → out ≡ lentAfter said (form (entriesOf (run errorBlock s at))) lent
     block-put form lent out k h p =
         let q : Put lent 0 (form (entriesOf (run errorBlock s at))) out k = rw (block-at s at) at p in
         put-all lent (form (entriesOf (run errorBlock s at))) out k q h ∙
         ap (λ (o : Result Ended). lentAfter o (form (entriesOf (run errorBlock s at))) lent) (sym block-fine-is)
 
     pub block-filled : (lent out : List ℕ) (k : ℕ) → 2 * slots ≤ length lent → r .entries ≡ 0 → r .payload ≡ 0
-        → Put lent 0 (entriesOf (run (layout (version 0 0) (groupsAt errorBlockRun)) s at)) out k → out ≡ lentAfter said (entriesOf (run errorBlock s at)) lent
+        → Put lent 0 (entriesOf (run (layout (version 0 0) (groupsAt P.errorBlock)) s at)) out k → out ≡ lentAfter said (entriesOf (run errorBlock s at)) lent
     block-filled lent out k h z y p = let l = block-fits z y in block-put (λ (es : List ℕ). es) lent out k (omega arith) p
 
     pub block-bytes : (lent out : List ℕ) (k : ℕ) → 16 * slots ≤ length lent → r .entries ≡ 0 → r .payload ≡ 0
-        → Put lent 0 (bytesOf (entriesOf (run (layout (version 0 0) (groupsAt errorBlockRun)) s at))) out k
+        → Put lent 0 (bytesOf (entriesOf (run (layout (version 0 0) (groupsAt P.errorBlock)) s at))) out k
         → out ≡ lentAfter said (bytesOf (entriesOf (run errorBlock s at))) lent
     block-bytes lent out k h z y p =
         let l = block-fits z y in

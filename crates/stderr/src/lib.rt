@@ -12,6 +12,7 @@ ghost use Rattle.judge.specs.Judged.{answerAs};
 ghost use Rattle.stderr.specs.Loop.{said, stoppedAs, recordFor};
 use codes::stderr::StderrCode;
 use codes::stderr::StderrFound;
+use items::Layout;
 use judge::Answer;
 use judge::Outcome;
 use layouts::Record;
@@ -102,7 +103,15 @@ fn stderr_loop(s: &[u8]) -> Stopped
                     }
                     Message::Goes(run) => {
                         let body = at + 8;
-                        let k = skip::skip(s, body, 0, 0, run);
+                        let k = skip::skip(
+                            s,
+                            body,
+                            Layout {
+                                major: 0,
+                                minor: 0,
+                                first: run,
+                            },
+                        );
                         match k {
                             Skipped::Refused { which, place } => {
                                 return Stopped::Refused { which, place };
@@ -161,26 +170,18 @@ fn read_error_block(s: &[u8], at: usize, sofar: Record, entries: &mut [u64]) -> 
     ensures entries { λ r. ⌜ now (entries .exit) ≡ lentAfter (judgeOf (now (s .entry)) (length (now (entries .entry)) / 2) 0 sofar (run errorBlock (now (s .entry)) at)) (entriesOf (run errorBlock (now (s .entry)) at)) (now (entries .entry)) ⌝ }
 {
     let slots = entries.len() / 2;
-    let a = judge::judge(s, at, 0, 0, table::ERROR_BLOCK_RUN, slots, 0, sofar);
-    let found = a.found;
+    let block = Layout {
+        major: 0,
+        minor: 0,
+        first: table::ERROR_BLOCK,
+    };
+    let a = judge::judge_record(s, at, block, slots, 0, sofar);
     let o = a.outcome;
-    match o {
-        Outcome::Refused {
-            which: _,
-            place: _,
-            stream: _,
-        } => Answer {
-            outcome: o,
-            kind: 0,
-            ends: 0,
-            ends2: 0,
-            found,
-        },
-        Outcome::Fine => {
-            fill::fill_entries(s, at, 0, 0, table::ERROR_BLOCK_RUN, entries, 0);
-            answer(a.ends, found)
-        }
-    }
+    let Outcome::Fine = o else {
+        return a;
+    };
+    fill::fill_entries(s, at, block, entries, 0);
+    a
 }
 
 pub fn read_stderr_with_error(s: &[u8], entries: &mut [u64]) -> Answer
@@ -211,26 +212,18 @@ fn read_error_block_bytes(s: &[u8], at: usize, sofar: Record, entries: &mut [u8]
     ensures entries { λ r. ⌜ now (entries .exit) ≡ lentAfter (judgeOf (now (s .entry)) (length (now (entries .entry)) / 16) 0 sofar (run errorBlock (now (s .entry)) at)) (bytesOf (entriesOf (run errorBlock (now (s .entry)) at))) (now (entries .entry)) ⌝ }
 {
     let slots = entries.len() / 16;
-    let a = judge::judge(s, at, 0, 0, table::ERROR_BLOCK_RUN, slots, 0, sofar);
-    let found = a.found;
+    let block = Layout {
+        major: 0,
+        minor: 0,
+        first: table::ERROR_BLOCK,
+    };
+    let a = judge::judge_record(s, at, block, slots, 0, sofar);
     let o = a.outcome;
-    match o {
-        Outcome::Refused {
-            which: _,
-            place: _,
-            stream: _,
-        } => Answer {
-            outcome: o,
-            kind: 0,
-            ends: 0,
-            ends2: 0,
-            found,
-        },
-        Outcome::Fine => {
-            fill::fill_entry_bytes(s, at, 0, 0, table::ERROR_BLOCK_RUN, entries, 0);
-            answer(a.ends, found)
-        }
-    }
+    let Outcome::Fine = o else {
+        return a;
+    };
+    fill::fill_entry_bytes(s, at, block, entries, 0);
+    a
 }
 
 pub fn read_stderr_with_error_bytes(s: &[u8], entries: &mut [u8]) -> Answer

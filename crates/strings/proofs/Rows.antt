@@ -7,9 +7,9 @@ use native.Mathlib.Omega.{arith}
 use lib.ListN.{length}
 use lib.Dec.{leb}
 use borrow.Author.Tests.{leb-true}
-use Rattle.layouts.specs.Primitive.{numberAt, padOf, refused}
-use Rattle.layouts.specs.Shape.{Role, Tree, say, strings, units}
-use Rattle.layouts.specs.Pieces.{Text, whole, cut, textOf, afterText, run, skipOf}
+use Rattle.layouts.specs.Primitive.{numberAt, padOf, ok, refused}
+use Rattle.layouts.specs.Shape.{Role, passed, Tree, say, strings, units}
+use Rattle.layouts.specs.Pieces.{Pieces, number, text, half, chunk, end, fault, Text, whole, textOf, afterText, run, skipOf}
 use Rattle.pieces.specs.declared.Text as T
 use Rattle.pieces.specs.declared.Text.the-variants.{Whole, Half, Bad}
 use Rattle.layouts.specs.Calls.{peekNumber}
@@ -18,9 +18,12 @@ use Rattle.number.specs.declared.Number.the-variants.{Value}
 use Rattle.pieces.specs.Pieces.{numRead, textRead}
 use Rattle.pieces.proofs.Numbers.{number-known}
 use Rattle.pieces.proofs.Found.{text-known, whole-string}
+use Rattle.pieces.proofs.Nodes.{say-as, whole-found}
 use Rattle.strings.specs.declared.More.{More}
 use Rattle.strings.specs.declared.More.the-variants as M
-use Rattle.strings.specs.Strings.{row, rowAfter, Expected}
+use Rattle.strings.specs.declared.Passed as P
+use Rattle.strings.specs.declared.Passed.the-variants.{Past, Refused}
+use Rattle.strings.specs.Strings.{row, rowAfter, stays, textIf, chunkIf, bare, passedTo, Passes, Expected}
 
 module _ (m : Role) (e : ℕ) (k : Unit {0} → Tree) where
   pub row-pend : (p l : ℕ) → 0 < p → row m p e l k ≡ say m (λ u. row m (p - 1) e l k)
@@ -59,47 +62,70 @@ module _ (s : List ℕ) (at n : ℕ) (b : Bool) (e : Expected s at n b) (h : b �
   pub expected-fits : at + 8 + n + padOf n ≤ length s
   expected-fits = text-known (length s) (numberAt s at) at (whole (at + 8) n (at + 8 + n + padOf n)) expected-told .3
 
--- the row from a place on, and what the whole is skipped to
+-- the row from a place on, and what the whole comes to
 pub record Passing (s : List ℕ) (e from p₀ l₀ at p l : ℕ) : Type 0 where
   pub on : from ≤ at
-  pub same : (m : Role) (k : Unit {0} → Tree) → skipOf (run (row m p₀ e l₀ k) s from) ≡ skipOf (run (row m p e l k) s at)
+  pub same : (b : Bool) (m : Role) → stays b m ≡ false → (k : Unit {0} → Tree) → bare b (run (row m p₀ e l₀ k) s from) ≡ bare b (run (row m p e l k) s at)
 
 pub passing-start : (s : List ℕ) (e from p l : ℕ) → Passing s e from p l from p l
-passing-start s e from p l = record { on = omega arith; same = λ m k. refl }
+passing-start s e from p l = record { on = omega arith; same = λ b m z k. refl }
 
 module _ (s : List ℕ) (e from p₀ l₀ at p l : ℕ) (g : Passing s e from p₀ l₀ at p l) (x : More) (h : (m : Role) (k : Unit {0} → Tree) → row m p e l k ≡ rowAfter m e k x) where
-  pub passing-end : x ≡ M.None → (m : Role) (k : Unit {0} → Tree) → skipOf (run (row m p₀ e l₀ k) s from) ≡ skipOf (run (k tt) s at)
-  passing-end q m k = g .same m k ∙ ap (λ (t : Tree). skipOf (run t s at)) (h m k ∙ ap (rowAfter m e k) q)
+  abbrev Passed : P.Passed → Type 0
+  Passed r = (b : Bool) (m : Role) → stays b m ≡ false → Passes b s from (row m p₀ e l₀) r
+
+  pub passing-end : x ≡ M.None → Passed (Past at)
+  passing-end q b m z k = g .same b m z k ∙ ap (λ (t : Tree). bare b (run t s at)) (h m k ∙ ap (rowAfter m e k) q)
 
   module _ (p' l' : ℕ) (q : x ≡ M.String p' l') (r : T.Text) (t : textRead r ≡ textOf (length s) (numberAt s at) at) where
-    there : (y : T.Text) → r ≡ y → (m : Role) (k : Unit {0} → Tree)
-        → skipOf (run (row m p₀ e l₀ k) s from) ≡ skipOf (afterText (textRead y) m (λ a. run (row m p' e l' k) s a))
-    unfolding run
-    there y f m k =
-        g .same m k ∙ ap (λ (z : Tree). skipOf (run z s at)) (h m k ∙ ap (rowAfter m e k) q) ∙
-        ap (λ (z : Text). skipOf (afterText z m (λ a. run (row m p' e l' k) s a))) (sym t ∙ ap textRead f)
+    there : (y : T.Text) → r ≡ y → (b : Bool) (m : Role) → stays b m ≡ false → (k : Unit {0} → Tree)
+        → bare b (run (row m p₀ e l₀ k) s from) ≡ bare b (afterText (textRead y) m (λ a. run (row m p' e l' k) s a))
+    there y f b m z k =
+        g .same b m z k ∙ ap (λ (u : Tree). bare b (run u s at)) (h m k ∙ ap (rowAfter m e k) q) ∙
+        ap (bare b) (say-as s at r t y f m (λ u. row m p' e l' k))
 
-    pub passing-bad : (which place : ℕ) → r ≡ Bad which place → (m : Role) (k : Unit {0} → Tree) → skipOf (run (row m p₀ e l₀ k) s from) ≡ refused which place 0
-    unfolding afterText skipOf
-    passing-bad which place f m k = there (Bad which place) f m k
+    pub passing-bad : (which place : ℕ) → r ≡ Bad which place → Passed (Refused which place)
+    unfolding afterText bare
+    passing-bad which place f b m z k = there (Bad which place) f b m z k
 
-    pub passing-half : (start len : ℕ) → r ≡ Half start len → (m : Role) (k : Unit {0} → Tree) → skipOf (run (row m p₀ e l₀ k) s from) ≡ refused 1 (start + len) 0
-    unfolding afterText skipOf
-    passing-half start len f m k = there (Half start len) f m k
-
-    pub half-within : (start len : ℕ) → r ≡ Half start len → start + len ≤ length s
-    half-within start len f = text-known (length s) (numberAt s at) at (cut start len) (sym (ap textRead f) ∙ t) .2
-
-    pub whole-on : (start len next : ℕ) → r ≡ Whole start len next → (at + 8 ≤ next) × (next ≤ length s)
-    whole-on start len next f =
-        let z = text-known (length s) (numberAt s at) at (whole start len next) (sym (ap textRead f) ∙ t) in (omega (arith, z), z .3)
+    pub passing-half : (start len : ℕ) → r ≡ Half start len → Passed (Refused 1 (start + len))
+    unfolding afterText bare
+    passing-half start len f b m z k = there (Half start len) f b m z k
 
     pub passing-on : (start len next : ℕ) → r ≡ Whole start len next → Passing s e from p₀ l₀ next p' l'
-    unfolding afterText skipOf
+    unfolding afterText bare
     passing-on start len next f =
-        let z = whole-on start len next f in
+        let z = whole-found s at r t start len next f in
         let o = g .on in
-        record { on = omega (arith, z); same = λ m k. there (Whole start len next) f m k }
+        record {
+          on = omega (arith, z);
+          same = λ b m y k. there (Whole start len next) f b m y k ∙ ap (λ (u : Bool). textIf u m start len (bare b (run (row m p' e l' k) s next))) y;
+        }
 
   pub passing-expected : (p' l' : ℕ) → x ≡ M.String p' l' → (n : ℕ) (b : Bool) → Expected s at n b → b ≡ true → (next : ℕ) → next ≡ at + 8 + n + padOf n → Passing s e from p₀ l₀ next p' l'
   passing-expected p' l' q n b f i next z = passing-on p' l' q (Whole (at + 8) n next) (ap (whole (at + 8) n) z ∙ expected-told s at n b f i) (at + 8) n next refl
+
+-- ---- who only skips, and who fills in, need not look at what is passed over
+skip-text : (u : Bool) (r : Role) (start len : ℕ) (p : Pieces) → skipOf (textIf u r start len p) ≡ skipOf p
+unfolding skipOf
+skip-text true r start len p = refl
+skip-text false r start len p = refl
+
+skip-chunk : (u : Bool) (start len : ℕ) (p : Pieces) → skipOf (chunkIf u start len p) ≡ skipOf p
+unfolding skipOf
+skip-chunk true start len p = refl
+skip-chunk false start len p = refl
+
+pub skip-bare : (b : Bool) (p : Pieces) → skipOf (bare b p) ≡ skipOf p
+unfolding bare skipOf
+skip-bare b (number i place n p) = skip-bare b p
+skip-bare b (text r start len p) = skip-text (stays b r) r start len (bare b p) ∙ skip-bare b p
+skip-bare b (half r start len) = refl
+skip-bare b (chunk start len p) = skip-chunk b start len (bare b p) ∙ skip-bare b p
+skip-bare b (end place) = refl
+skip-bare b (fault which place) = refl
+
+-- a row that is skipped
+pub row-skips : (s : List ℕ) (e from p l : ℕ) (r : P.Passed) → ((b : Bool) (m : Role) → stays b m ≡ false → Passes b s from (row m p e l) r)
+    → (k : Unit {0} → Tree) → skipOf (run (row passed p e l k) s from) ≡ skipOf (passedTo r (λ a. bare false (run (k tt) s a)))
+row-skips s e from p l r h k = sym (skip-bare false (run (row passed p e l k) s from)) ∙ ap skipOf (h false passed refl k)

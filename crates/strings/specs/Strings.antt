@@ -4,9 +4,9 @@ use mathlib.Core.Path.{_≡_}
 use mathlib.Core.List.{List}
 use mathlib.Core.Bool.{Bool, true, false}
 use lib.ListN.{length}
-use Rattle.layouts.specs.Primitive.{numberAt, padOf, Result, refused}
-use Rattle.layouts.specs.Shape.{Role, Tree, say, strings, units}
-use Rattle.layouts.specs.Pieces.{whole, textOf}
+use Rattle.layouts.specs.Primitive.{numberAt, padOf, cutShort}
+use Rattle.layouts.specs.Shape.{Role, passed, checked, kept, Tree, say, strings, units}
+use Rattle.layouts.specs.Pieces.{Pieces, number, text, half, chunk, end, fault, whole, textOf, run}
 use Rattle.strings.specs.declared.More.{More}
 use Rattle.strings.specs.declared.More.the-variants as M
 use Rattle.strings.specs.declared.Passed.{Passed}
@@ -19,10 +19,38 @@ abbrev pub rowAfter : Role → (extra : ℕ) → (Unit {0} → Tree) → More �
 rowAfter m extra k (M.String pend left) = say m (λ u. row m pend extra left k)
 rowAfter m extra k M.None = k tt
 
--- what follows the row, or the refusal
-abbrev pub passedOr : Passed → (ℕ → Result ℕ) → Result ℕ
-passedOr (P.Past at) k = k at
-passedOr (P.Refused which place) k = refused which place 0
+-- ---- pieces without what is passed over: numbers, and all strings and chunks, or those that are not to be filled in
+-- is a string to stay?
+abbrev pub stays : (keep : Bool) → Role → Bool
+stays b passed = false
+stays b checked = false
+stays b kept = b
+
+abbrev pub textIf : Bool → Role → (start len : ℕ) → Pieces → Pieces
+textIf true r start len p = text r start len p
+textIf false r start len p = p
+
+abbrev pub chunkIf : Bool → (start len : ℕ) → Pieces → Pieces
+chunkIf true start len p = chunk start len p
+chunkIf false start len p = p
+
+-- one who looks at no text takes a string whose padding is cut short for the refusal that it is
+unfoldable pub bare : (keep : Bool) → Pieces → Pieces
+bare b (number i place n p) = bare b p
+bare b (text r start len p) = textIf (stays b r) r start len (bare b p)
+bare b (half r start len) = fault cutShort (start + len)
+bare b (chunk start len p) = chunkIf b start len (bare b p)
+bare b (end place) = end place
+bare b (fault which place) = fault which place
+
+-- what follows, or the refusal
+abbrev pub passedTo : Passed → (ℕ → Pieces) → Pieces
+passedTo (P.Past at) k = k at
+passedTo (P.Refused which place) k = fault which place
+
+-- t puts something before a rest: whatever the rest is, nothing of t stays
+abbrev pub Passes : (keep : Bool) → List ℕ → (at : ℕ) → ((Unit {0} → Tree) → Tree) → Passed → Type 0
+Passes b s at t r = (k : Unit {0} → Tree) → bare b (run (t k) s at) ≡ passedTo r (λ a. bare b (run (k tt) s a))
 
 abbrev pub PastFrom : (from : ℕ) → Passed → Type 0
 PastFrom from (P.Past at) = from ≤ at

@@ -1,15 +1,12 @@
-// Strings in a row, as a set or pairs leave them to the walk: `pend` of them, and then `left` times `extra` + 1. One loop for all of them: a walk of one
-// piece a call pays for its whole state at each.
+// Strings in a row, as a set or pairs have them: `pend` of them, and then `left` times `extra` + 1.
 ghost use mathlib.Core.Path.{_≡_};
 ghost use Prim.Native.Nat.{_≤_};
 ghost use lib.ListN.{length};
-ghost use Rattle.layouts.specs.Shape.{Role, Tree, strings, units};
-ghost use Rattle.layouts.specs.Pieces.{run, skipOf};
-ghost use Rattle.strings.specs.Strings.{row, rowAfter, passedOr, PastFrom, Expected};
+ghost use mathlib.Core.Bool.{Bool, false};
+ghost use Rattle.layouts.specs.Shape.{Role, Tree};
+ghost use Rattle.strings.specs.Strings.{row, rowAfter, stays, Passes, PastFrom, Expected};
 use number::Number;
 use pieces::Text;
-
-const CUT_SHORT: u64 = 1;
 
 // From here on a length is seldom in the first-level cache when its turn comes.
 const LONG: usize = 256;
@@ -67,7 +64,7 @@ fn is_expected(s: &[u8], at: usize, expected: usize) -> bool
 
 // No contents are looked at.
 pub fn pass(s: &[u8], from: usize, pend: u64, extra: u64, left: u64) -> Passed
-    ensures law { λ r. ⌜ ((m : Role) (k : Unit {0} → Tree) → skipOf (run (row m pend extra left k) (now (s .entry)) from) ≡ passedOr r (λ at. skipOf (run (k tt) (now (s .entry)) at))) ⌝ }
+    ensures law { λ r. ⌜ ((b : Bool) (m : Role) → stays b m ≡ false → Passes b (now (s .entry)) from (row m pend extra left) r) ⌝ }
     ensures on { λ r. ⌜ PastFrom from r ⌝ }
 {
     let mut at = from;
@@ -93,7 +90,7 @@ pub fn pass(s: &[u8], from: usize, pend: u64, extra: u64, left: u64) -> Passed
                         }
                         Text::Half { start, len } => {
                             return Passed::Refused {
-                                which: CUT_SHORT,
+                                which: layouts::CUT_SHORT,
                                 place: start + len,
                             };
                         }

@@ -1,5 +1,5 @@
 -- What the row that is found says of its operation.
-use Prim.Native.Nat.{ℕ}
+use Prim.Native.Nat.{ℕ, zero, suc}
 use mathlib.Core.Path.{_≡_, refl, sym, _∙_, ap, subst}
 use mathlib.Core.Bool.{Bool, true, false}
 use mathlib.Core.List.{List, [], _∷_, map}
@@ -15,7 +15,8 @@ use Rattle.table.specs.declared.Row as R
 use Rattle.table.specs.declared.Found.{Found}
 use Rattle.table.specs.declared.Found.the-variants as F
 use Rattle.table.specs.Packed.{rows}
-use Rattle.table.specs.Table.{Numbered, groupsAt, findIn, rowFor, numberedValue, kindNumbered}
+use Rattle.table.specs.Numbered.{Numbered, numberedValue}
+use Rattle.table.specs.Table.{groupsAt, findIn, rowFor, rowIn, rowAt, kindNumbered}
 use Rattle.table.specs.Claims.{numbered, Said, said, wanted, rows-say}
 
 -- ---- both searches find the same
@@ -101,3 +102,18 @@ module _ (op : ℕ) where
 
   pub unknown-refuses : (x : Found) → x ≡ rowFor op → x ≡ F.Unknown → Refuses op
   unknown-refuses x e q = refuses-by (O.find op) refl (matched x F.Unknown e q)
+
+-- ---- a row at a place is what the search for its number finds: no two rows have one number
+rows-found : map (λ (r : R.Row). rowFor (r .number)) rows ≡ map F.Row rows
+unfolding rowFor findIn
+rows-found = refl
+
+at-place : (f : R.Row → Found) (rs : List R.Row) (i : ℕ) (r : R.Row) → map f rs ≡ map F.Row rs → rowIn rs i ≡ F.Row r → f r ≡ F.Row r
+unfolding rowIn
+at-place f [] i r e q = let z : _≡_ {A = ℕ} 0 1 = cc in absurd (omega arith)
+at-place f (x ∷ rs) zero r e q = let h : x ≡ r = cc in let g : f x ≡ F.Row x = cc in rw (← h) g
+at-place f (x ∷ rs) (suc i) r e q = let t : map f rs ≡ map F.Row rs = cc in at-place f rs i r t q
+
+pub found-at : (i : ℕ) (r : R.Row) → rowAt i ≡ F.Row r → rowFor (r .number) ≡ F.Row r
+unfolding rowAt
+found-at i r q = at-place (λ (x : R.Row). rowFor (x .number)) rows i r rows-found q

@@ -1,23 +1,25 @@
--- The tables stand for the layouts of `layouts`: computed, row by row.
+-- The tables stand for the layouts of `layouts`: computed, row by row. `./tables` makes them from what is claimed here.
 use Prim.Native.Nat.{ℕ}
 use mathlib.Core.Path.{_≡_, refl}
 use mathlib.Core.List.{List, [], _∷_, _++_, map}
 use Rattle.layouts.specs.Primitive.{version}
-use Rattle.layouts.specs.Shape.{Group, once, layout}
+use Rattle.layouts.specs.Shape.{asCount, kept, set, Group, once, layout}
 use Rattle.layouts.specs.Operations.{Kinds, only, byVersion, byFlag, kindNumber, skipKind, skipped, Operation, operations}
-use Rattle.layouts.specs.Calls.{older}
+use Rattle.layouts.specs.Calls.{older, field}
 use Rattle.layouts.specs.Stderr.{Next, Read, Write, StartActivity, StopActivity, Result#, goes, messageOf, errorBlock}
 use Rattle.layouts.specs.Handshake.{hello, featureFields, obsoleteFields, infoFields}
 use Rattle.table.specs.declared.Row.{Row}
-use Rattle.table.specs.Packed.{fieldTable, runTable, rows, stringMessage, numberMessage, startActivity, resultMessage, errorBlockRun, helloClient, helloDaemon, featuresClient, featuresDaemon, obsolete, info}
-use Rattle.table.specs.Table.{roleOf, slotOf, whatOf, itemOf, unlessEnd, consItem, items, itemsAt, groupOf, consRun, groupsIn, groupsAt, Numbered, just, numberedOf}
-use Rattle.table.specs.Table as T
+use Rattle.table.specs.Numbered.{Numbered, just}
+use Rattle.table.specs.Numbered as K
+use Rattle.table.specs.Packed.{fieldTable, runTable, rows}
+use Rattle.table.specs.Packed as P
+use Rattle.table.specs.Table.{roleOf, slotOf, whatOf, itemOf, unlessEnd, consItem, items, itemsAt, groupOf, consRun, groupsIn, groupsAt, numberedOf}
 
 -- kinds by their numbers
 abbrev pub numbered : Kinds → Numbered
 numbered (only k) = just (kindNumber k)
-numbered (byVersion x k l) = T.byVersion x (numbered k) (numbered l)
-numbered (byFlag k l) = T.byFlag (numbered k) (numbered l)
+numbered (byVersion x k l) = K.byVersion x (numbered k) (numbered l)
+numbered (byFlag k l) = K.byFlag (numbered k) (numbered l)
 
 -- what a row has to say of an operation
 pub record Said : Type 0 where
@@ -59,19 +61,20 @@ rows-say = refl
 
 -- the other layouts
 pub record Others : Type 0 where
-  pub next : messageOf Next ≡ goes (groupsAt stringMessage)
-  pub write : messageOf Write ≡ goes (groupsAt stringMessage)
-  pub read : messageOf Read ≡ goes (groupsAt numberMessage)
-  pub stopped : messageOf StopActivity ≡ goes (groupsAt numberMessage)
-  pub started : messageOf StartActivity ≡ goes (groupsAt startActivity)
-  pub result : messageOf Result# ≡ goes (groupsAt resultMessage)
-  pub error : errorBlock ≡ layout (version 0 0) (groupsAt errorBlockRun)
-  pub client : hello 0 1 ≡ layout (version 0 0) (groupsAt helloClient)
-  pub daemon : hello 2 3 ≡ layout (version 0 0) (groupsAt helloDaemon)
-  pub clientFeatures : once (featureFields 0) ∷ [] ≡ groupsAt featuresClient
-  pub daemonFeatures : once (featureFields 1) ∷ [] ≡ groupsAt featuresDaemon
-  pub obsoletes : once obsoleteFields ∷ [] ≡ groupsAt obsolete
-  pub infos : once infoFields ∷ [] ≡ groupsAt info
+  pub next : messageOf Next ≡ goes (groupsAt P.stringMessage)
+  pub write : messageOf Write ≡ goes (groupsAt P.stringMessage)
+  pub read : messageOf Read ≡ goes (groupsAt P.numberMessage)
+  pub stopped : messageOf StopActivity ≡ goes (groupsAt P.numberMessage)
+  pub started : messageOf StartActivity ≡ goes (groupsAt P.startActivity)
+  pub result : messageOf Result# ≡ goes (groupsAt P.resultMessage)
+  pub error : errorBlock ≡ layout (version 0 0) (groupsAt P.errorBlock)
+  pub client : hello 0 1 ≡ layout (version 0 0) (groupsAt P.helloClient)
+  pub daemon : hello 2 3 ≡ layout (version 0 0) (groupsAt P.helloDaemon)
+  pub clientFeatures : once (featureFields 0) ∷ [] ≡ groupsAt P.featuresClient
+  pub daemonFeatures : once (featureFields 1) ∷ [] ≡ groupsAt P.featuresDaemon
+  pub obsoletes : once obsoleteFields ∷ [] ≡ groupsAt P.obsolete
+  pub infos : once infoFields ∷ [] ≡ groupsAt P.info
+  pub strings : field (set kept (asCount 0)) ≡ layout (version 0 0) (groupsAt P.stringSet)
 
 pub others : Others
 unfolding messageOf errorBlock groupsAt groupsIn consRun groupOf itemsAt items consItem unlessEnd itemOf whatOf slotOf roleOf fieldTable runTable
@@ -90,4 +93,5 @@ others =
       daemonFeatures = refl;
       obsoletes = refl;
       infos = refl;
+      strings = refl;
     }

@@ -1,3 +1,4 @@
+pub mod Numbered
 pub mod Packed
 pub mod Table
 pub mod Claims

@@ -1,17 +1,18 @@
 -- What the packed numbers say, in the words of `layouts`. Past its end a table reads as 0.
-use Prim.Native.Nat.{ℕ, _-_, _/_, _%_}
+use Prim.Native.Nat.{ℕ, zero, suc, _-_, _/_, _%_}
 use mathlib.Core.List.{List, [], _∷_}
 use mathlib.Core.Bool.{Bool, true, false}
 use lib.ListN.{getD, drop}
 use lib.Dec.{ltb, eqb}
-use Rattle.layouts.specs.Primitive.{pick, Version, version, atLeast}
+use Rattle.layouts.specs.Primitive.{pick, Version}
 use Rattle.layouts.specs.Shape.{Slot, dropped, asNumber, asFlag, asCount, asPresence, Role, passed, checked, kept, What, num, str, set, pairs, framed, maybe, typed, Item, always, from, below, Group, once, opt, many}
 use Rattle.table.specs.declared.Field.{Field}
 use Rattle.table.specs.declared.Run.{Run}
 use Rattle.table.specs.declared.Row.{Row}
 use Rattle.table.specs.declared.Found.{Found}
 use Rattle.table.specs.declared.Found.the-variants as F
-use Rattle.table.specs.Packed.{fieldTable, runTable, rows}
+use Rattle.table.specs.Numbered.{Numbered, just, numberedValue}
+use Rattle.table.specs.Packed.{fieldTable, runTable, rows, firstCode, kindList}
 
 abbrev pub fieldOf : ℕ → Field
 fieldOf x = record { kind = x % 16; role = x / 16 % 4; slot = x / 64 % 64; gate = x / 4096 % 4; minor = x / 16384 % 256 }
@@ -82,28 +83,23 @@ findIn (r ∷ rs) op = pick (eqb (r .number) op) (F.Row r) (findIn rs op)
 unfoldable pub rowFor : (op : ℕ) → Found
 rowFor op = findIn rows op
 
--- ---- kinds by number
-pub data Numbered : Type 0 where
-  just : ℕ → Numbered
-  byVersion : ℕ → Numbered → Numbered → Numbered
-  byFlag : Numbered → Numbered → Numbered
+-- the i-th row
+unfoldable pub rowIn : List Row → (i : ℕ) → Found
+rowIn [] i = F.Unknown
+rowIn (r ∷ rs) zero = F.Row r
+rowIn (r ∷ rs) (suc i) = rowIn rs i
 
-abbrev pub numberedValue : Version → (present : Bool) → Numbered → ℕ
-numberedValue v b (just n) = n
-numberedValue v b (byVersion x k l) = pick (atLeast v (version 1 x)) (numberedValue v b k) (numberedValue v b l)
-numberedValue v b (byFlag k l) = pick b (numberedValue v b k) (numberedValue v b l)
+unfoldable pub rowAt : (i : ℕ) → Found
+rowAt i = rowIn rows i
 
-abbrev pathInfo : Numbered
-pathInfo = byVersion 16 (just 3) (just 4)
+-- ---- kinds by code: those of the list from the first code on, and any other code is the kind's number
+unfoldable pub numberedIn : List Numbered → (first code : ℕ) → Numbered
+numberedIn [] n c = just c
+numberedIn (k ∷ ks) n c = pick (eqb c n) k (numberedIn ks (suc n) c)
 
 unfoldable pub numberedOf : (code : ℕ) → Numbered
-numberedOf c =
-    pick (eqb c 32) (byVersion 25 (just 13) (just 0))
-    (pick (eqb c 33) (byVersion 25 pathInfo (just 2))
-    (pick (eqb c 34) (byVersion 12 (just 4) (just 1))
-    (pick (eqb c 35) (byFlag (just 9) (just 10))
-    (pick (eqb c 36) (byFlag pathInfo (just 5))
-    (pick (eqb c 37) (byVersion 23 (just 12) (just 0)) (just c))))))
+unfolding numberedIn
+numberedOf c = numberedIn kindList firstCode c
 
 abbrev pub kindNumbered : Version → (present : Bool) → (code : ℕ) → ℕ
 kindNumbered v b c = numberedValue v b (numberedOf c)

@@ -1,5 +1,21 @@
 // What a layout's table holds: the types of a field, a run of fields and the row of an operation, and the numbers that they are told by. The packed tables
-// themselves are definitions here; `fields`, `field_runs` and `operations` have them as code.
+// themselves are definitions here; `fields`, `field_runs`, `operations` and `kinds` have them as code.
+pub mod kinds;
+pub mod places;
+
+pub use places::ERROR_BLOCK;
+pub use places::FEATURES_CLIENT;
+pub use places::FEATURES_DAEMON;
+pub use places::FIELD_COUNT;
+pub use places::HELLO_CLIENT;
+pub use places::HELLO_DAEMON;
+pub use places::INFO;
+pub use places::NUMBER_MESSAGE;
+pub use places::OBSOLETE;
+pub use places::RESULT_MESSAGE;
+pub use places::START_ACTIVITY;
+pub use places::STRING_MESSAGE;
+pub use places::STRING_SET;
 
 // A field: its kind (0 ends a run), what becomes of its strings, where its number goes, and whether a version decides that it is there, and which.
 pub struct Field {
@@ -81,29 +97,3 @@ pub const ALWAYS: u8 = 0;
 pub const FROM: u8 = 1;
 
 pub const BELOW: u8 = 2;
-
-// How many fields there are; this is also the place of an empty run of fields.
-pub const FIELD_COUNT: usize = 186;
-
-// The runs of the other layouts.
-pub const STRING_MESSAGE: usize = 70;
-
-pub const NUMBER_MESSAGE: usize = 72;
-
-pub const START_ACTIVITY: usize = 74;
-
-pub const RESULT_MESSAGE: usize = 78;
-
-pub const ERROR_BLOCK_RUN: usize = 81;
-
-pub const HELLO_CLIENT: usize = 84;
-
-pub const HELLO_DAEMON: usize = 86;
-
-pub const FEATURES_CLIENT: usize = 88;
-
-pub const FEATURES_DAEMON: usize = 90;
-
-pub const OBSOLETE: usize = 92;
-
-pub const INFO: usize = 94;

@@ -15,7 +15,7 @@ fn write_two(out: &mut [u8], a: &[u8], b: &[u8]) -> Written
     let n = a.len() + b.len();
     if out.len() < n {
         return Written::Refused {
-            which: output::OUTPUT_FULL,
+            which: layouts::OUTPUT_FULL,
             place: 0,
         };
     }

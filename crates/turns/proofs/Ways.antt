@@ -14,9 +14,8 @@ use Rattle.layouts.specs.Handshake.{Both, onStream, streamOf, numberIn, version
 use Rattle.layouts.proofs.Placed.{never-both}
 use Rattle.judge.specs.declared.Outcome.{Outcome}
 use Rattle.judge.specs.declared.Outcome.the-variants.{Fine, Refused}
-use Rattle.judge.specs.declared.Judged.{Judged}
 use Rattle.judge.specs.declared.Answer.{Answer}
-use Rattle.judge.specs.Judged.{judgedAs, answerAs}
+use Rattle.judge.specs.Judged.{answerAs, endedAs}
 use Rattle.turns.specs.declared.Sofar.{Sofar}
 use Rattle.turns.specs.Sofar.{unlessRefused, bothOf, said, judgedOf, placeOn, movedOn, afterTurn, turnOf, required}
 
@@ -57,17 +56,17 @@ module _ (h : Sofar) where
       by Fine e = sym (goes f e) ∙ q ∙ goes g e
       by (Refused which place stream) e = sym (stays f which place stream e) ∙ stays g which place stream e
 
-pub judged-back : (a : Judged) (o : Result Ended) → a ≡ judgedAs o → judgedOf a ≡ o
+pub judged-back : (a : Answer) (o : Result Ended) → a ≡ answerAs (endedAs o) → judgedOf a ≡ o
 unfolding judgedOf
-judged-back a (ok x) e = ap (λ (j : Judged). unlessRefused (j .outcome) (record { found = j .found; ends = j .ends })) e
-judged-back a (refused which place stream) e = ap (λ (j : Judged). unlessRefused (j .outcome) (record { found = j .found; ends = j .ends })) e
+judged-back a (ok x) e = ap (λ (j : Answer). unlessRefused (j .outcome) (record { found = j .found; ends = j .ends })) e
+judged-back a (refused which place stream) e = ap (λ (j : Answer). unlessRefused (j .outcome) (record { found = j .found; ends = j .ends })) e
 
 -- ---- a turn that was judged
 pub stream-bit : (d : Bool) (n : ℕ) → n ≡ pick d 1 0 → n ≡ streamOf d
 stream-bit false n e = e
 stream-bit true n e = e
 
-module _ (d : Bool) (x : Both) (a : Judged) where
+module _ (d : Bool) (x : Both) (a : Answer) where
   pub after-refused : (which place stream i : ℕ) (o : Result Both) → a .outcome ≡ Refused which place stream → o ≡ refused which place i → i ≡ streamOf d
       → o ≡ afterTurn d x (judgedOf a)
   unfolding afterTurn judgedOf
@@ -84,7 +83,7 @@ module _ (d : Bool) (x : Both) (a : Judged) where
       ∙ ap (λ (p : Outcome). onward (onStream d (unlessRefused p (record { found = a .found; ends = a .ends }))) (λ e. ok (movedOn d x e))) (sym e)
 
 module _ (d : Bool) (s : List ℕ) (slots : ℕ) (t : Tree) (h : Sofar) where
-  pub turn-fine : h .outcome ≡ Fine → (at : ℕ) → at ≡ placeOn d (bothOf h) → (a : Judged) → a ≡ judgedAs (judgeOf s slots 0 (h .found) (run t s at))
+  pub turn-fine : h .outcome ≡ Fine → (at : ℕ) → at ≡ placeOn d (bothOf h) → (a : Answer) → a ≡ answerAs (endedAs (judgeOf s slots 0 (h .found) (run t s at)))
       → (r : Sofar) → said r ≡ afterTurn d (bothOf h) (judgedOf a) → said r ≡ onward (said h) (turnOf d s slots t)
   unfolding turnOf
   turn-fine e at p a q r z =

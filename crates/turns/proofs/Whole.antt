@@ -14,7 +14,7 @@ use Rattle.layouts.specs.Handshake.{over, Heard, hear, Both, judgeHeard, heardE
 use Rattle.table.specs.Packed.{helloClient, helloDaemon, featuresClient, featuresDaemon, obsolete, info}
 use Rattle.table.specs.Table.{groupsAt}
 use Rattle.table.specs.Claims.{others}
-use Rattle.walk.specs.Walk.{layoutPieces}
+use Rattle.items.specs.Items.{layoutPieces}
 use Rattle.judge.specs.declared.Answer.{Answer}
 use Rattle.judge.specs.Judged.{answerAs}
 use Rattle.turns.specs.declared.Sofar.{Sofar}

@@ -4,7 +4,7 @@ use mathlib.Core.List.{List, [], _++_}
 use Rattle.layouts.specs.Primitive.{version, Result, ok, refused}
 use Rattle.layouts.specs.Judge.{entriesOf}
 use Rattle.table.specs.Packed.{featuresClient, featuresDaemon, info}
-use Rattle.walk.specs.Walk.{layoutPieces}
+use Rattle.items.specs.Items.{layoutPieces}
 use Rattle.turns.specs.declared.Greeted.{Greeted}
 
 abbrev pub clientEntries : Greeted → List ℕ → List ℕ

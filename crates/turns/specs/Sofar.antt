@@ -10,7 +10,7 @@ use Rattle.layouts.specs.Judge.{Ended, judgeOf}
 use Rattle.layouts.specs.Handshake.{Both, onStream}
 use Rattle.judge.specs.declared.Outcome.{Outcome}
 use Rattle.judge.specs.declared.Outcome.the-variants.{Fine, Refused}
-use Rattle.judge.specs.declared.Judged.{Judged}
+use Rattle.judge.specs.declared.Answer.{Answer}
 use Rattle.turns.specs.declared.Sofar.{Sofar}
 
 abbrev pub unlessRefused : {A : Type 0} → Outcome → A → Result A
@@ -27,7 +27,7 @@ bothOf h = record { found = h .found; clientEnds = h .«client_ends»; daemonEnd
 unfoldable pub said : Sofar → Result Both
 said h = unlessRefused (h .outcome) (bothOf h)
 
-unfoldable pub judgedOf : Judged → Result Ended
+unfoldable pub judgedOf : Answer → Result Ended
 judgedOf a = unlessRefused (a .outcome) (record { found = a .found; ends = a .ends })
 
 -- the place of the stream that a turn is on

@@ -14,8 +14,8 @@ ghost use Rattle.versions.specs.Handshake.{versionOf};
 ghost use Rattle.judge.specs.Judged.{answerAs};
 ghost use Rattle.turns.specs.Sofar.{start, bothOf, said, judgedOf, turnOf, required, afterTurn};
 ghost use Rattle.turns.specs.Greeted.{clientEntries, daemonEntries, reported};
+use items::Layout;
 use judge::Answer;
-use judge::Judged;
 use judge::Outcome;
 use layouts::Record;
 use versions::handshake::ProtocolVersion;
@@ -25,13 +25,6 @@ const WORKER_MAGIC_1: u64 = 0x6e697863;
 const WORKER_MAGIC_2: u64 = 0x6478696f;
 
 const STDERR_LAST: u64 = 0x616c7473;
-
-// Refusals: the client's magic, the daemon's magic, the last number is not Last.
-const CLIENT_MAGIC_WRONG: u64 = 6;
-
-const DAEMON_MAGIC_WRONG: u64 = 7;
-
-const NOT_LAST: u64 = 8;
 
 // Where the numbers of a handshake stand in the record while it is read.
 const CLIENT_MAGIC: usize = 0;
@@ -102,7 +95,7 @@ impl Sofar {
     }
 
     // After a turn that was judged so. A refusal names the stream.
-    fn after(self, of_daemon: bool, turn: Judged) -> Self
+    fn after(self, of_daemon: bool, turn: Answer) -> Self
         ensures { λ r. ⌜ said r ≡ afterTurn «of_daemon» (bothOf self) (judgedOf turn) ⌝ }
     {
         let found = turn.found;
@@ -132,9 +125,14 @@ impl Sofar {
         };
         let at = either(of_daemon, self.daemon_ends, self.client_ends);
         let found = self.found;
+        let layout = Layout {
+            major: v.major,
+            minor: v.minor,
+            first: run,
+        };
         self.after(
             of_daemon,
-            judge::judge(s, at, v.major, v.minor, run, slots, 0, found),
+            judge::judge_record(s, at, layout, slots, 0, found),
         )
     }
 
@@ -158,15 +156,15 @@ impl Sofar {
     {
         let client_holds = self.number(CLIENT_MAGIC) == WORKER_MAGIC_1;
         let daemon_holds = self.number(DAEMON_MAGIC) == WORKER_MAGIC_2;
-        let met = self.require(client_holds, CLIENT_MAGIC_WRONG, 0, 0);
-        met.require(daemon_holds, DAEMON_MAGIC_WRONG, 0, 1)
+        let met = self.require(client_holds, layouts::CLIENT_MAGIC_WRONG, 0, 0);
+        met.require(daemon_holds, layouts::DAEMON_MAGIC_WRONG, 0, 1)
     }
 
     fn require_daemon_magic(self) -> Self
         ensures { λ r. ⌜ said r ≡ onward (said self) (required (eqb (numberIn (self .found) 2) daemonMagic) daemonMagicWrong 0 1) ⌝ }
     {
         let holds = self.number(DAEMON_MAGIC) == WORKER_MAGIC_2;
-        self.require(holds, DAEMON_MAGIC_WRONG, 0, 1)
+        self.require(holds, layouts::DAEMON_MAGIC_WRONG, 0, 1)
     }
 
     // The daemon's last number has to be Last.
@@ -175,7 +173,7 @@ impl Sofar {
     {
         let holds = self.number(LAST) == STDERR_LAST;
         let place = place_before(self.daemon_ends);
-        self.require(holds, NOT_LAST, place, 1)
+        self.require(holds, layouts::NOT_LAST, place, 1)
     }
 
     fn client_version(self) -> ProtocolVersion

@@ -7,12 +7,6 @@ ghost use Rattle.layouts.specs.Primitive.{same};
 ghost use Rattle.layouts.specs.Writers.{viewOf, featureOf, partOf, storeDirectory, isStorePath};
 ghost use Rattle.views.specs.Fault.{meaning, faultOf};
 
-// The refusal of an index that is not below the slots.
-pub const NO_SUCH_ENTRY: u64 = 11;
-
-// The refusal of an entry that passes the end of the bytes.
-pub const BAD_ENTRY: u64 = 12;
-
 const DIRECTORY_LENGTH: usize = 11;
 
 // The directory, a hash of 32 characters and a dash.
@@ -29,7 +23,7 @@ pub fn entry_fault(bytes: &[u8], entries: &[u64], i: usize) -> Fault
 {
     if entries.len() / 2 <= i {
         return Fault::Refused {
-            which: NO_SUCH_ENTRY,
+            which: layouts::NO_SUCH_ENTRY,
             place: i,
         };
     }
@@ -38,13 +32,13 @@ pub fn entry_fault(bytes: &[u8], entries: &[u64], i: usize) -> Fault
     let n = bytes.len() as u64;
     if n < start {
         return Fault::Refused {
-            which: BAD_ENTRY,
+            which: layouts::BAD_ENTRY,
             place: i,
         };
     }
     if n - start < len {
         return Fault::Refused {
-            which: BAD_ENTRY,
+            which: layouts::BAD_ENTRY,
             place: i,
         };
     }

@@ -2,12 +2,13 @@
 use Prim.Native.Nat.{ℕ, zero, suc, _+_, _/_}
 use mathlib.Core.Path.{_≡_, refl, sym, _∙_, ap}
 use mathlib.Core.List.{List}
+use mathlib.Core.Bool.{Bool, false}
 use lib.ListN.{length}
 use native.Mathlib.Omega.{arith}
 use Rattle.layouts.specs.Primitive.{numberAt, Result, ok, refused, onward}
 use Rattle.layouts.specs.declared.Record.{Record}
 use Rattle.layouts.specs.Shape.{asNumber, asCount, Role, passed, kept, set, Tree, stop, strings, units}
-use Rattle.layouts.specs.Pieces.{Pieces, Text, afterText, run, skipOf}
+use Rattle.layouts.specs.Pieces.{Pieces, end, Text, afterText, run, skipOf}
 use Rattle.layouts.specs.Record.{blank, withNumber, withCount, withEntries, noted, entered}
 use Rattle.layouts.specs.Judge.{Ended, judgeOf, notText, textTaken, halfTaken, entriesOf, lentAfter}
 use Rattle.layouts.specs.Calls.{field, peekNumber, readStringSet, skipStringSet}
@@ -25,7 +26,9 @@ use Rattle.runs.proofs.Sets.{judge-kept}
 use Rattle.runs.proofs.Filling.{lent-kept}
 use Rattle.strings.specs.declared.Passed as R
 use Rattle.strings.specs.declared.Passed.the-variants as R'
-use Rattle.strings.specs.Strings.{row, passedOr}
+use Rattle.strings.specs.Strings as Row
+use Rattle.strings.specs.Strings.{row, stays, bare, Passes}
+use Rattle.strings.proofs.Rows.{row-skips}
 
 module _ (s : List ℕ) (at : ℕ) (r : Number) (e : numRead r ≡ peekNumber s at) where
   module _ (q : r ≡ Short) where
@@ -97,16 +100,21 @@ module _ (s : List ℕ) (x : Record) where
   judge-passed (suc n) at = pass-by (λ a. run (units passed 0 n (λ u. stop)) s a) (text-view (length s) (numberAt s at) at) (λ a. judge-passed n a)
 
 module _ (s : List ℕ) (at : ℕ) (r : Number) (e : numRead r ≡ peekNumber s at) (n : ℕ) (q : r ≡ Value n) (o : R.Passed)
-    (f : (m : Role) (k : Unit {0} → Tree) → skipOf (run (row m 0 0 n k) s (at + 8)) ≡ passedOr o (λ a. skipOf (run (k tt) s a))) where
-  skip-set-as : (o' : R.Passed) → o ≡ o' → toEnd s (withNumber blank 0 n) (passedOr o' ok) ≡ skipStringSet s at
-  unfolding judgeOf noted row strings run skipOf
+    (f : (b : Bool) (m : Role) → stays b m ≡ false → Passes b s (at + 8) (row m 0 0 n) o) where
+  abbrev to : R.Passed → Result ℕ
+  to o' = skipOf (Row.passedTo o' (λ a. end a))
+
+  skip-set-as : (o' : R.Passed) → o ≡ o' → toEnd s (withNumber blank 0 n) (to o') ≡ skipStringSet s at
+  unfolding judgeOf noted row strings run skipOf bare
   skip-set-as o' g =
       let k = number-known s at r e n q in
       rw (field-set passed (asNumber 0), ask-value s at n (k .1) (asNumber 0) (λ v. units passed 0 v (λ u. stop)) (k .0))
-      (sym (judge-passed s (withNumber blank 0 n) n (at + 8) ∙ ap (toEnd s (withNumber blank 0 n)) (f passed (λ u. stop) ∙ ap (λ (y : R.Passed). passedOr y ok) g)))
+      (sym (judge-passed s (withNumber blank 0 n) n (at + 8) ∙ ap (toEnd s (withNumber blank 0 n)) (row-skips s 0 (at + 8) 0 n o f (λ u. stop) ∙ ap to g)))
 
   pub skip-set-past : (next : ℕ) → o ≡ R'.Past next → ok (record { found = withNumber blank 0 n; ends = next }) ≡ skipStringSet s at
+  unfolding skipOf
   skip-set-past next g = skip-set-as (R'.Past next) g
 
   pub skip-set-refused : (which place : ℕ) → o ≡ R'.Refused which place → refused which place 0 ≡ skipStringSet s at
+  unfolding skipOf
   skip-set-refused which place g = skip-set-as (R'.Refused which place) g

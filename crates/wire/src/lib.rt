@@ -86,7 +86,7 @@ impl Cursor {
                 next: Cursor { at: at + 8 },
             },
             Number::Short => Read::Refused {
-                which: pieces::CUT_SHORT,
+                which: layouts::CUT_SHORT,
                 place: at,
             },
         }
@@ -103,7 +103,7 @@ impl Cursor {
                 next: Cursor { at: at + 4 },
             },
             Number::Short => Read::Refused {
-                which: pieces::CUT_SHORT,
+                which: layouts::CUT_SHORT,
                 place: at,
             },
         }
@@ -155,7 +155,7 @@ impl Cursor {
         let at = self.at;
         match pieces::number_at(s, at) {
             Number::Short => Read::Refused {
-                which: pieces::CUT_SHORT,
+                which: layouts::CUT_SHORT,
                 place: at,
             },
             Number::Value(kept) => {
@@ -178,7 +178,7 @@ impl Cursor {
         let at = self.at;
         match pieces::number_at(s, at) {
             Number::Short => Read::Refused {
-                which: pieces::CUT_SHORT,
+                which: layouts::CUT_SHORT,
                 place: at,
             },
             Number::Value(count) => {

@@ -23,7 +23,7 @@ pub fn write_u64(out: &mut [u8], x: u64) -> Written
         return Written::Length(8);
     }
     Written::Refused {
-        which: output::OUTPUT_FULL,
+        which: layouts::OUTPUT_FULL,
         place: 0,
     }
 }
@@ -36,7 +36,7 @@ pub fn write_u32(out: &mut [u8], x: u32) -> Written
         return Written::Length(4);
     }
     Written::Refused {
-        which: output::OUTPUT_FULL,
+        which: layouts::OUTPUT_FULL,
         place: 0,
     }
 }
@@ -48,7 +48,7 @@ pub fn write_bytes(out: &mut [u8], c: &[u8]) -> Written
     let n = output::string_length(c);
     if out.len() < n {
         return Written::Refused {
-            which: output::OUTPUT_FULL,
+            which: layouts::OUTPUT_FULL,
             place: 0,
         };
     }
@@ -64,7 +64,7 @@ pub fn write_string(out: &mut [u8], c: &[u8]) -> Written
         return write_bytes(out, c);
     }
     Written::Refused {
-        which: pieces::BAD_TEXT,
+        which: layouts::BAD_TEXT,
         place: 0,
     }
 }
@@ -116,7 +116,7 @@ pub fn write_framed(out: &mut [u8], c: &[u8]) -> Written
     let n = framed_length(c.len());
     if out.len() < n {
         return Written::Refused {
-            which: output::OUTPUT_FULL,
+            which: layouts::OUTPUT_FULL,
             place: 0,
         };
     }

@@ -14,16 +14,19 @@ pub struct Entry {
 }
 
 impl Entry {
+    #[inline]
     fn read(bytes: &[u8]) -> Entry {
         Entry { start: number(bytes, 0) as usize, length: number(bytes, 1) as usize }
     }
 
     /// The contents, as a part of the stream that was read. Panics where another stream is too short for it.
+    #[inline]
     pub fn bytes(self, stream: &[u8]) -> &[u8] {
         &stream[self.start..][..self.length]
     }
 
     /// The contents as text. Panics where they are none, which a kept string of the stream that was read never is.
+    #[inline]
     pub fn text(self, stream: &[u8]) -> &str {
         str::from_utf8(self.bytes(stream)).expect("a kept string of this stream, which was judged to be text")
     }
@@ -31,21 +34,25 @@ impl Entry {
 
 /// The entries of an answer, in reading order, as they stand in the room that was lent for them.
 #[derive(Clone, Copy, PartialEq, Eq)]
-pub struct Entries<'r>(&'r [u8]);
+pub struct Entries<'r>(pub(crate) &'r [u8]);
 
 impl<'r> Entries<'r> {
+    #[inline]
     pub fn len(self) -> usize {
         self.0.len() / ENTRY
     }
 
+    #[inline]
     pub fn is_empty(self) -> bool {
         self.len() == 0
     }
 
+    #[inline]
     pub fn get(self, index: usize) -> Option<Entry> {
         self.0.chunks_exact(ENTRY).nth(index).map(Entry::read)
     }
 
+    #[inline]
     pub fn iter(self) -> impl Iterator<Item = Entry> + 'r {
         self.0.chunks_exact(ENTRY).map(Entry::read)
     }
@@ -73,6 +80,7 @@ pub struct Answer<'r> {
 
 impl Answer<'_> {
     /// The one entry of a call that is lent no room for entries: it stands in the answer itself, as numbers 1 and 2.
+    #[inline]
     pub fn own_entry(&self) -> Entry {
         Entry { start: self.numbers[1] as usize, length: self.numbers[2] as usize }
     }
@@ -118,38 +126,8 @@ impl fmt::Display for Refusal {
 
 impl Error for Refusal {}
 
-/// The bytes that a call writes its answer into: 25 numbers.
-pub(crate) struct Block([u8; 200]);
-
-impl Block {
-    /// What a call writes, which is given the pointer and the length of a new block.
-    pub fn of(call: impl FnOnce(*mut u8, usize) -> u64) -> Block {
-        let mut block = Block([0; 200]);
-        call(block.0.as_mut_ptr(), block.0.len());
-        block
-    }
-
-    /// The answer, with what it reports of the room that was lent to the call.
-    pub fn answer<'r>(&self, entries: &'r [u8], payload: &'r [u8]) -> Result<Answer<'r>, Refusal> {
-        let at = |index| number(&self.0, index);
-        if at(0) != 0 {
-            return Err(Refusal { number: at(0), place: at(1) as usize, stream: at(2) });
-        }
-        // An entry or a length that is reported by a call without such room stands in the answer itself.
-        let reported = |room: &'r [u8], length: usize| room.get(..length).unwrap_or_default();
-        Ok(Answer {
-            kind: at(3),
-            end: at(4) as usize,
-            end2: at(5) as usize,
-            numbers: std::array::from_fn(|i| at(8 + i)),
-            counts: std::array::from_fn(|i| at(20 + i)),
-            entries: Entries(reported(entries, at(6) as usize * ENTRY)),
-            payload: reported(payload, at(7) as usize),
-        })
-    }
-}
-
 /// The little-endian number that stands at an index in rows of eight bytes.
+#[inline]
 fn number(bytes: &[u8], index: usize) -> u64 {
     let bytes = &bytes[8 * index..][..8];
     u64::from_le_bytes(bytes.try_into().expect("eight bytes"))

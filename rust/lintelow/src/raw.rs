@@ -7,10 +7,13 @@
 //!   library takes any pointer with length 0.
 //! - The library reads what is shared and writes only what is lent by `&mut`; by Rust's borrowing no lent slice overlaps another one.
 //! - It is proved to end without a fault for every content, length and number, and keeps no pointer.
+//! - It writes all 200 bytes of a block that has as many, whatever it answers, so that nobody has to clear one before.
 //! - The declarations are those of `include/lintelow.h`.
-use crate::answer::{Answer, Block, Refusal};
+use crate::answer::{Answer, Refusal};
 use crate::types::Version;
+use block::Block;
 
+mod block;
 mod wire;
 
 pub use crate::answer::ENTRY;
@@ -59,13 +62,17 @@ macro_rules! of_an_operation {
                 block_len: usize,
             ) -> u64;)*
         }
-        $($(#[$doc])* pub fn $name<'r>(op: u64, version: Version, s: &[u8], entries: &'r mut [u8], payload: &'r mut [u8]) -> Result<Answer<'r>, Refusal> {
+        $($(#[$doc])*
+        #[inline]
+        pub fn $name<'r>(op: u64, version: Version, s: &[u8], entries: &'r mut [u8], payload: &'r mut [u8]) -> Result<Answer<'r>, Refusal> {
             let Version { major, minor } = version;
             // SAFETY: as said above.
-            let block = Block::of(|block, length| unsafe {
-                let (room, bytes) = (entries.as_mut_ptr(), payload.as_mut_ptr());
-                $function(op, major, minor, s.as_ptr(), s.len(), room, entries.len(), bytes, payload.len(), block, length)
-            });
+            let block = unsafe {
+                Block::of(|block, length| {
+                    let (room, bytes) = (entries.as_mut_ptr(), payload.as_mut_ptr());
+                    $function(op, major, minor, s.as_ptr(), s.len(), room, entries.len(), bytes, payload.len(), block, length)
+                })
+            };
             block.answer(entries, payload)
         })*
     };
@@ -84,10 +91,12 @@ macro_rules! past_an_operation {
         extern "C" {
             $(fn $function(op: u64, major: u16, minor: u8, s: *const u8, s_len: usize, block: *mut u8, block_len: usize) -> u64;)*
         }
-        $($(#[$doc])* pub fn $name(op: u64, version: Version, s: &[u8]) -> Result<Answer<'static>, Refusal> {
+        $($(#[$doc])*
+        #[inline]
+        pub fn $name(op: u64, version: Version, s: &[u8]) -> Result<Answer<'static>, Refusal> {
             let Version { major, minor } = version;
             // SAFETY: as said above.
-            let block = Block::of(|block, length| unsafe { $function(op, major, minor, s.as_ptr(), s.len(), block, length) });
+            let block = unsafe { Block::of(|block, length| $function(op, major, minor, s.as_ptr(), s.len(), block, length)) };
             block.answer(&[], &[])
         })*
     };
@@ -101,36 +110,44 @@ past_an_operation! {
 }
 
 /// The daemon's messages up to Last, Error or what is no message.
+#[inline]
 pub fn read_stderr_loop(s: &[u8]) -> Result<Answer<'static>, Refusal> {
     // SAFETY: as said above.
-    let block = Block::of(|block, length| unsafe { lintelow_read_stderr_loop(s.as_ptr(), s.len(), block, length) });
+    let block = unsafe { Block::of(|block, length| lintelow_read_stderr_loop(s.as_ptr(), s.len(), block, length)) };
     block.answer(&[], &[])
 }
 
 /// The same, and behind Error its block.
+#[inline]
 pub fn read_stderr_with_error<'r>(s: &[u8], entries: &'r mut [u8]) -> Result<Answer<'r>, Refusal> {
     // SAFETY: as said above.
-    let block = Block::of(|block, length| unsafe {
-        lintelow_read_stderr_with_error(s.as_ptr(), s.len(), entries.as_mut_ptr(), entries.len(), block, length)
-    });
+    let block = unsafe {
+        Block::of(|block, length| lintelow_read_stderr_with_error(s.as_ptr(), s.len(), entries.as_mut_ptr(), entries.len(), block, length))
+    };
     block.answer(entries, &[])
 }
 
 /// Both sides of a handshake. Entries: the client's features, of its stream; the daemon's features and its version, of the daemon's.
+#[inline]
 pub fn parse_handshake<'r>(client: &[u8], daemon: &[u8], entries: &'r mut [u8]) -> Result<Answer<'r>, Refusal> {
     // SAFETY: as said above.
-    let block = Block::of(|block, length| unsafe {
-        lintelow_parse_handshake(client.as_ptr(), client.len(), daemon.as_ptr(), daemon.len(), entries.as_mut_ptr(), entries.len(), block, length)
-    });
+    let block = unsafe {
+        Block::of(|block, length| {
+            lintelow_parse_handshake(client.as_ptr(), client.len(), daemon.as_ptr(), daemon.len(), entries.as_mut_ptr(), entries.len(), block, length)
+        })
+    };
     block.answer(entries, &[])
 }
 
 /// The daemon's side of a handshake alone, with the version that the client has said.
+#[inline]
 pub fn parse_daemon_handshake<'r>(client: Version, daemon: &[u8], entries: &'r mut [u8]) -> Result<Answer<'r>, Refusal> {
     let Version { major, minor } = client;
     // SAFETY: as said above.
-    let block = Block::of(|block, length| unsafe {
-        lintelow_parse_daemon_handshake(major, minor, daemon.as_ptr(), daemon.len(), entries.as_mut_ptr(), entries.len(), block, length)
-    });
+    let block = unsafe {
+        Block::of(|block, length| {
+            lintelow_parse_daemon_handshake(major, minor, daemon.as_ptr(), daemon.len(), entries.as_mut_ptr(), entries.len(), block, length)
+        })
+    };
     block.answer(entries, &[])
 }

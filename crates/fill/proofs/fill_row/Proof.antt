@@ -1,33 +1,55 @@
--- `fill::fill_row` meets its contract: what is written and what is to come are the entries of the walk.
+-- `fill::fill_row` meets its contract: string by string.
 use borrow.Author.Needs.{needs}
 use Rattle.fill.proofs.fill_row.Statement.{statement}
 use Rattle.fill.proofs.fill_row.Tie as tie
 use denote.Ref.{now}
-use Prim.Native.Nat.{_-_, _≤_}
-use mathlib.Core.Path.{refl, ap}
-use mathlib.Core.List.{[], _∷_}
-use native.Mathlib.Omega.{arith}
+use Prim.Native.Nat.{_-_}
 use lib.ListN.{length}
-use Rattle.layouts.specs.Judge.{entriesOf}
-use Rattle.walk.specs.Walk.{rest}
-use Rattle.fill.specs.Fill.{rowAt, Filling}
-use Rattle.fill.proofs.Room.{filling-start, filling-as, filling-put}
-use Rattle.fill.proofs.Rows.{in-row-by, row-walk, row-falls}
+use native.Mathlib.Omega.{arith}
+use Rattle.pieces.proofs.Nodes.{whole-found}
+use Rattle.fill.proofs.Pieces.{Rowing, rowing-start, rowing-end, rowing-bad, rowing-half, rowing-on}
 
 abbrev Inv-loop : tie.InvT-loop
-Inv-loop s out₀ place role pend extra left flow at row₀ n₀ out row n =
-    Filling out₀ n₀ (entriesOf (rest s (rowAt role flow row₀))) out n (entriesOf (rest s (rowAt role flow row))) × (row₀ .at ≤ row .at)
+Inv-loop s from pend extra left words₀ word bytes₀ byte at₀ p₀ l₀ w₀ b₀ words bytes at p l w b = Rowing s words₀ word bytes₀ byte extra from pend left words w bytes b at p l
 
 abbrev μ-loop : tie.MeasureT-loop
-μ-loop s out₀ place role pend extra left flow at row₀ n₀ out row n = length s - row .at
+μ-loop s from pend extra left words₀ word bytes₀ byte at₀ p₀ l₀ w₀ b₀ words bytes at p l w b = length s - at
+
+loop-holds : tie.Need-loop-holds Inv-loop μ-loop
+loop-holds c = rowing-start (now (c .before .before .before .args .s)) _ _ _ _ _ _ _ _
+
+same-length : tie.Need-same-length Inv-loop μ-loop
+same-length c = c .before .before .before .loop .inv .wide
+
+same-length-3 : tie.Need-same-length-3 Inv-loop μ-loop
+same-length-3 c = c .before .before .before .before .before .before .before .loop .inv .wide
+
+same-length-5 : tie.Need-same-length-5 Inv-loop μ-loop
+same-length-5 c = c .before .before .before .before .before .before .before .loop .inv .wide
+
+same-length-2 : tie.Need-same-length-2 Inv-loop μ-loop
+same-length-2 c = c .before .before .before .loop .inv .long
+
+same-length-4 : tie.Need-same-length-4 Inv-loop μ-loop
+same-length-4 c = c .before .before .before .before .before .before .before .loop .inv .long
+
+same-length-6 : tie.Need-same-length-6 Inv-loop μ-loop
+same-length-6 c = c .before .before .before .before .before .before .before .loop .inv .long
+
+returns : tie.Need-returns Inv-loop μ-loop
+returns c = (rowing-end (now (c .before .before .before .before .before .before .before .args .s)) _ _ _ _ _ _ _ _ _ _ _ _ _ _ _ (c .before .before .before .loop .inv) _ (c .before .before .after-next .ensures) (c .enum-told .given .1), c .before .before .before .loop .inv .on)
+
+returns-2 : tie.Need-returns-2 Inv-loop μ-loop
+returns-2 c = (rowing-bad (now (c .before .before .before .before .before .before .before .before .before .before .before .args .s)) _ _ _ _ _ _ _ _ _ _ _ _ _ _ _ (c .before .before .before .before .before .before .before .loop .inv) _ (c .before .before .before .before .before .before .after-next .ensures) _ _ (c .before .before .before .before .m .given .1) _ (c .before .before .text-at .ensures) _ _ (c .enum-told2 .given .1), tt)
 
 returns-3 : tie.Need-returns-3 Inv-loop μ-loop
-returns-3 c = let s = now (c .before .before .before .before .before .before .before .before .before .before .before .before .args .s) in
-    (filling-as _ _ _ _ _ _ _ _ (ap entriesOf (row-walk s (c .before .before .before .before .before .before .before .before .before .before .before .before .args .walk) _ _ _ _ (c .before .before .before .before .before .before .before .before .todo .given .1))) (ap (λ w. entriesOf (rest s w)) (c .before-row .ensures)) (c .before .before .before .before .loop .inv .0), row-falls s (c .before .before .before .before .before .before .before .before .before .before .before .before .args .walk) _ _ (c .before .before .before .before .loop .row) (c .before-row .ensures) (c .before .before .before .before .loop .inv .1))
+returns-3 c = (rowing-half (now (c .before .before .before .before .before .before .before .before .before .before .before .args .s)) _ _ _ _ _ _ _ _ _ _ _ _ _ _ _ (c .before .before .before .before .before .before .before .loop .inv) _ (c .before .before .before .before .before .before .after-next .ensures) _ _ (c .before .before .before .before .m .given .1) _ (c .before .before .text-at .ensures) _ _ (c .enum-told3 .given .1), tt)
+
+loop-less : tie.Need-loop-less Inv-loop μ-loop
+loop-less c = omega (arith, whole-found (now (c .before .before .before .before .before .before .before .before .before .before .before .before .before .before .before .before .before .before .before .before .args .s)) _ _ (c .before .before .before .before .before .before .before .before .before .before .before .text-at .ensures) _ _ _ (c .before .before .before .before .before .before .before .before .before .t .given .1))
 
 loop-again : tie.Need-loop-again Inv-loop μ-loop
-loop-again c = let r = in-row-by (now (c .before .before .before .before .before .before .before .before .before .before .before .before .before .before .before .before .args .s)) (c .before .before .before .before .before .before .before .before .loop .row) (c .before .before .before .before .before .before .before .next-in-row .result) _ (c .before .before .before .before .before .e .given .1) (c .before .before .before .before .before .before .before .next-in-row .ensures) in
-    (filling-put _ _ _ _ _ _ (c .before .before .before .before .before .before .before .before .loop .inv .0) (c .before .before .before .before .before .e .given .0 .0 ∷ c .before .before .before .before .before .e .given .0 .1 .0 ∷ []) _ _ _ (r .0 _ (c .before .before .before .before .before .before .before .before .before .before .before .before .before .before .before .before .args .walk .flow) (c .before .before .before .before .before .before .before .before .before .before .if1 .left)) (c .before .before .put-entry .ensures), omega (arith, r .1, c .before .before .before .before .before .before .before .before .loop .inv .1))
+loop-again c = rowing-on (now (c .before .before .before .before .before .before .before .before .before .before .before .before .before .before .before .before .before .before .before .before .args .s)) _ _ _ _ _ _ _ _ _ _ _ _ _ _ _ (c .before .before .before .before .before .before .before .before .before .before .before .before .before .before .before .before .loop .inv) _ (c .before .before .before .before .before .before .before .before .before .before .before .before .before .before .before .after-next .ensures) _ _ (c .before .before .before .before .before .before .before .before .before .before .before .before .before .m .given .1) _ (c .before .before .before .before .before .before .before .before .before .before .before .text-at .ensures) _ _ _ (c .before .before .before .before .before .before .before .before .before .t .given .1) _ _ _ _ (c .before .before .before .before .before .before .put-entry .ensures) (c .before .before .put-entry-bytes .ensures)
 
 pub fill-row-spec : {M : Type 1} → statement M
 fill-row-spec =
@@ -35,16 +57,24 @@ fill-row-spec =
     (tie.spec
     Inv-loop
     μ-loop
-    (λ c. search needs)
-    (λ c. (filling-start _ _ _ _ refl, omega arith))
-    (λ c. (filling-start _ _ _ _ refl, omega arith))
-    (λ c. (filling-start _ _ _ _ refl, omega arith))
+    loop-holds
     (λ c κs. search needs)
     (λ c. search needs)
+    same-length
+    same-length-2
+    returns
+    (λ c. search needs)
     (λ c κs. search needs)
-    (λ c. c .before .before .before .before .loop .inv .0 .size)
+    (λ c. search needs)
+    same-length-3
+    same-length-4
+    returns-2
+    (λ c. search needs)
+    same-length-5
+    same-length-6
     returns-3
     (λ c. search needs)
     (λ c κs. search needs)
-    (λ c. let r = in-row-by (now (c .before .before .before .before .before .before .before .before .before .before .before .before .before .before .before .before .args .s)) (c .before .before .before .before .before .before .before .before .loop .row) (c .before .before .before .before .before .before .before .next-in-row .result) _ (c .before .before .before .before .before .e .given .1) (c .before .before .before .before .before .before .before .next-in-row .ensures) in omega (arith, r .1, r .2))
+    (λ c κs. search needs)
+    loop-less
     loop-again)

@@ -4,20 +4,20 @@ use mathlib.Core.Path.{_≡_, sym, _∙_, ap}
 use mathlib.Core.Bool.{Bool}
 use Rattle.layouts.specs.Primitive.{Result, ok, refused}
 use Rattle.layouts.specs.Calls.{hasFramed, opHasClientFramedData}
-use Rattle.table.specs.declared.Found.{Found}
-use Rattle.table.specs.declared.Found.the-variants as F
-use Rattle.table.specs.declared.Row.{Row}
 use Rattle.table.specs.Table.{rowFor}
-use Rattle.table.proofs.Rows.{found-says, unknown-refuses}
+use Rattle.operations.specs.declared.Shape.{Shape}
+use Rattle.operations.specs.declared.Shape.the-variants.{Unknown, At}
+use Rattle.operations.specs.Rows.{argumentsOf}
+use Rattle.operations.proofs.Shapes.{shape-frames, shape-refuses}
 use borrow.Author.Needs.{needs}
 use Rattle.ops.proofs.op_has_client_framed_data.Statement.{statement}
 use Rattle.ops.proofs.op_has_client_framed_data.Tie as tie
 
-not-known : (op n : ℕ) (x : Found) → n ≡ 9 → x ≡ rowFor op → x ≡ F.Unknown → refused n 0 0 ≡ opHasClientFramedData op
-not-known op n x h e q = ap {B = Result Bool} (λ (w : ℕ). refused w 0 0) h ∙ sym (unknown-refuses op x e q .sendsFrames)
+not-known : (op n : ℕ) (x : Shape) → n ≡ 9 → x ≡ argumentsOf (rowFor op) → x ≡ Unknown → refused n 0 0 ≡ opHasClientFramedData op
+not-known op n x h e q = ap {B = Result Bool} (λ (w : ℕ). refused w 0 0) h ∙ sym (shape-refuses op x _ _ e q .sendsFrames)
 
-known : (op : ℕ) (x : Found) (r : Row) (t b : Bool) → x ≡ rowFor op → x ≡ F.Row r → t ≡ hasFramed op → t ≡ b → ok b ≡ opHasClientFramedData op
-known op x r t b e q f g = ap ok (sym g ∙ f) ∙ sym (found-says op x r e q .sendsFrames)
+known : (op : ℕ) (x : Shape) (i k : ℕ) (t b : Bool) → x ≡ argumentsOf (rowFor op) → x ≡ At i k → t ≡ hasFramed op → t ≡ b → ok b ≡ opHasClientFramedData op
+known op x i k t b e q f g = ap ok (sym g ∙ f) ∙ sym (shape-frames op x _ _ e i k q)
 
 pub op-has-client-framed-data-spec : {M : Type 1} → statement M
 op-has-client-framed-data-spec =

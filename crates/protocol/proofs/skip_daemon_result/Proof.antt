@@ -1,4 +1,4 @@
--- `protocol::skip_daemon_result` meets its contract: by the row of the operation.
+-- `protocol::skip_daemon_result` meets its contract: by the shape of the operation.
 use borrow.Author.Needs.{needs}
 use Rattle.protocol.proofs.skip_daemon_result.Statement.{statement}
 use Rattle.protocol.proofs.skip_daemon_result.Tie as tie
@@ -7,16 +7,16 @@ use mathlib.Core.Path.{_∙_}
 use Rattle.layouts.specs.Primitive.{version}
 use Rattle.layouts.specs.Operations.{only, None}
 use Rattle.layouts.specs.Calls.{skipDaemonResult}
-use Rattle.table.proofs.Rows.{found-says, unknown-refuses}
+use Rattle.operations.proofs.Shapes.{reply-says, shape-refuses}
 use Rattle.protocol.proofs.Rows.{unknown-skip, row-skip}
 
 returns : tie.Need-returns
 unfolding skipDaemonResult
-returns c = unknown-skip (version (c .before .before .before .before .args .major) (c .before .before .before .before .args .minor)) (only None) 0 0 (now (c .before .before .before .before .args .s)) _ (unknown-refuses (c .before .before .before .before .args .op) _ (c .before .before .find .ensures) (c .enum-told .given .1) .reply (version (c .before .before .before .before .args .major) (c .before .before .before .before .args .minor)))
+returns c = unknown-skip (version (c .before .before .before .before .args .major) (c .before .before .before .before .args .minor)) (only None) 0 0 (now (c .before .before .before .before .args .s)) _ (shape-refuses (c .before .before .before .before .args .op) _ _ _ (c .before .before .reply .ensures) (c .enum-told .given .1) .reply (version (c .before .before .before .before .args .major) (c .before .before .before .before .args .minor)))
 
 returns-2 : tie.Need-returns-2
 unfolding skipDaemonResult
-returns-2 c = c .skip .ensures ∙ row-skip (version (c .before .before .before .before .before .before .args .major) (c .before .before .before .before .before .before .args .minor)) (only None) 0 0 (now (c .before .before .before .before .before .before .args .s)) _ _ (found-says (c .before .before .before .before .before .before .args .op) _ _ (c .before .before .before .before .find .ensures) (c .before .before .f .given .1) .reply (version (c .before .before .before .before .before .before .args .major) (c .before .before .before .before .before .before .args .minor)))
+returns-2 c = c .skip .ensures ∙ row-skip (version (c .before .before .before .before .before .before .args .major) (c .before .before .before .before .before .before .args .minor)) (only None) 0 0 (now (c .before .before .before .before .before .before .args .s)) _ _ (reply-says (c .before .before .before .before .before .before .args .op) _ _ _ (c .before .before .before .before .reply .ensures) (c .before .before .f .given .1) .tree (version (c .before .before .before .before .before .before .args .major) (c .before .before .before .before .before .before .args .minor)))
 
 pub skip-daemon-result-spec : {M : Type 1} → statement M
 skip-daemon-result-spec =

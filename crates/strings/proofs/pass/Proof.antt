@@ -6,7 +6,8 @@ use denote.Ref.{now}
 use Prim.Native.Nat.{_-_}
 use native.Mathlib.Omega.{arith}
 use lib.ListN.{length}
-use Rattle.strings.proofs.Rows.{Passing, passing-start, passing-end, passing-bad, passing-half, half-within, whole-on, passing-on, expected-fits, passing-expected}
+use Rattle.strings.proofs.Rows.{Passing, passing-start, passing-end, passing-bad, passing-half, passing-on, expected-fits, passing-expected}
+use Rattle.pieces.proofs.Nodes.{half-within, whole-found}
 
 abbrev Inv-loop : tie.InvT-loop
 Inv-loop s from pend extra left at₀ p₀ l₀ x₀ at p l x = Passing s extra from pend left at p l
@@ -23,7 +24,7 @@ pass-spec =
     (λ c. passing-start (now (c .before .args .s)) (c .before .args .extra) (c .before .args .from) (c .before .args .pend) (c .before .args .left))
     (λ c κs. search needs)
     (λ c. search needs)
-    (λ c. (λ m k. passing-end (now (c .before .before .before .before .before .args .s)) _ _ _ _ _ _ _ (c .before .before .before .loop .inv) _ (c .before .before .after-next .ensures) (c .enum-told .given .1) m k, c .before .before .before .loop .inv .on))
+    (λ c. (passing-end (now (c .before .before .before .before .before .args .s)) _ _ _ _ _ _ _ (c .before .before .before .loop .inv) _ (c .before .before .after-next .ensures) (c .enum-told .given .1), c .before .before .before .loop .inv .on))
     (λ c. search needs)
     (λ c κs. search needs)
     (λ c. omega (arith, expected-fits (now (c .before .before .before .before .before .before .before .before .args .s)) _ _ _ (c .before .is-expected .ensures) (c .if1 .taken)))
@@ -34,10 +35,10 @@ pass-spec =
     (λ c. passing-expected (now (c .before .before .before .before .before .before .before .before .before .args .s)) _ _ _ _ _ _ _ (c .before .before .before .before .before .before .before .loop .inv) _ (c .before .before .before .before .before .before .after-next .ensures) _ _ (c .before .before .before .before .m .given .1) _ _ (c .before .before .is-expected .ensures) (c .before .if1 .taken) _ (omega (arith, c .padding .ensures)))
     (λ c κs. search needs)
     (λ c. search needs)
-    (λ c. (λ m k. passing-bad (now (c .before .before .before .before .before .before .before .before .before .before .before .before .args .s)) _ _ _ _ _ _ _ (c .before .before .before .before .before .before .before .before .before .before .loop .inv) _ (c .before .before .before .before .before .before .before .before .before .after-next .ensures) _ _ (c .before .before .before .before .before .before .before .m .given .1) _ (c .before .before .before .text-at .ensures) _ _ (c .before .t .given .1) m k, tt))
+    (λ c. (passing-bad (now (c .before .before .before .before .before .before .before .before .before .before .before .before .args .s)) _ _ _ _ _ _ _ (c .before .before .before .before .before .before .before .before .before .before .loop .inv) _ (c .before .before .before .before .before .before .before .before .before .after-next .ensures) _ _ (c .before .before .before .before .before .before .before .m .given .1) _ (c .before .before .before .text-at .ensures) _ _ (c .before .t .given .1), tt))
     (λ c. search needs)
-    (λ c. omega (arith, half-within (now (c .before .before .before .before .before .before .before .before .before .before .before .before .args .s)) _ _ _ _ _ _ _ (c .before .before .before .before .before .before .before .before .before .before .loop .inv) _ (c .before .before .before .before .before .before .before .before .before .after-next .ensures) _ _ (c .before .before .before .before .before .before .before .m .given .1) _ (c .before .before .before .text-at .ensures) _ _ (c .before .t2 .given .1)))
-    (λ c. (λ m k. passing-half (now (c .before .before .before .before .before .before .before .before .before .before .before .before .args .s)) _ _ _ _ _ _ _ (c .before .before .before .before .before .before .before .before .before .before .loop .inv) _ (c .before .before .before .before .before .before .before .before .before .after-next .ensures) _ _ (c .before .before .before .before .before .before .before .m .given .1) _ (c .before .before .before .text-at .ensures) _ _ (c .before .t2 .given .1) m k, tt))
+    (λ c. omega (arith, half-within (now (c .before .before .before .before .before .before .before .before .before .before .before .before .args .s)) _ _ (c .before .before .before .text-at .ensures) _ _ (c .before .t2 .given .1)))
+    (λ c. (passing-half (now (c .before .before .before .before .before .before .before .before .before .before .before .before .args .s)) _ _ _ _ _ _ _ (c .before .before .before .before .before .before .before .before .before .before .loop .inv) _ (c .before .before .before .before .before .before .before .before .before .after-next .ensures) _ _ (c .before .before .before .before .before .before .before .m .given .1) _ (c .before .before .before .text-at .ensures) _ _ (c .before .t2 .given .1), tt))
     (λ c. search needs)
-    (λ c. omega (arith, whole-on (now (c .before .before .before .before .before .before .before .before .before .before .before .before .args .s)) _ _ _ _ _ _ _ (c .before .before .before .before .before .before .before .before .before .before .loop .inv) _ (c .before .before .before .before .before .before .before .before .before .after-next .ensures) _ _ (c .before .before .before .before .before .before .before .m .given .1) _ (c .before .before .before .text-at .ensures) _ _ _ (c .before .t3 .given .1)))
+    (λ c. omega (arith, whole-found (now (c .before .before .before .before .before .before .before .before .before .before .before .before .args .s)) _ _ (c .before .before .before .text-at .ensures) _ _ _ (c .before .t3 .given .1)))
     (λ c. passing-on (now (c .before .before .before .before .before .before .before .before .before .before .before .before .args .s)) _ _ _ _ _ _ _ (c .before .before .before .before .before .before .before .before .before .before .loop .inv) _ (c .before .before .before .before .before .before .before .before .before .after-next .ensures) _ _ (c .before .before .before .before .before .before .before .m .given .1) _ (c .before .before .before .text-at .ensures) _ _ _ (c .before .t3 .given .1)))

@@ -1,5 +1,6 @@
 //! The calls for numbers, strings, sets and framed data, entries and store paths. Calls of one shape are written once.
-use crate::answer::{Answer, Block, Refusal};
+use super::block::Block;
+use crate::answer::{Answer, Refusal};
 
 /// Calls that look at a stream from a place on.
 macro_rules! at_a_place {
@@ -7,9 +8,11 @@ macro_rules! at_a_place {
         extern "C" {
             $(fn $function(s: *const u8, s_len: usize, at: usize, block: *mut u8, block_len: usize) -> u64;)*
         }
-        $($(#[$doc])* pub fn $name(s: &[u8], at: usize) -> Result<Answer<'static>, Refusal> {
+        $($(#[$doc])*
+        #[inline]
+        pub fn $name(s: &[u8], at: usize) -> Result<Answer<'static>, Refusal> {
             // SAFETY: as raw.rs says.
-            let block = Block::of(|block, length| unsafe { $function(s.as_ptr(), s.len(), at, block, length) });
+            let block = unsafe { Block::of(|block, length| $function(s.as_ptr(), s.len(), at, block, length)) };
             block.answer(&[], &[])
         })*
     };
@@ -39,9 +42,11 @@ macro_rules! of_a_number {
         extern "C" {
             $(fn $function(out: *mut u8, out_len: usize, x: $number, block: *mut u8, block_len: usize) -> u64;)*
         }
-        $($(#[$doc])* pub fn $name(out: &mut [u8], x: $number) -> Result<Answer<'_>, Refusal> {
+        $($(#[$doc])*
+        #[inline]
+        pub fn $name(out: &mut [u8], x: $number) -> Result<Answer<'_>, Refusal> {
             // SAFETY: as raw.rs says.
-            let block = Block::of(|block, length| unsafe { $function(out.as_mut_ptr(), out.len(), x, block, length) });
+            let block = unsafe { Block::of(|block, length| $function(out.as_mut_ptr(), out.len(), x, block, length)) };
             block.answer(&[], out)
         })*
     };
@@ -64,9 +69,11 @@ macro_rules! of_bytes {
         extern "C" {
             $(fn $function(out: *mut u8, out_len: usize, c: *const u8, c_len: usize, block: *mut u8, block_len: usize) -> u64;)*
         }
-        $($(#[$doc])* pub fn $name<'r>(out: &'r mut [u8], c: &[u8]) -> Result<Answer<'r>, Refusal> {
+        $($(#[$doc])*
+        #[inline]
+        pub fn $name<'r>(out: &'r mut [u8], c: &[u8]) -> Result<Answer<'r>, Refusal> {
             // SAFETY: as raw.rs says.
-            let block = Block::of(|block, length| unsafe { $function(out.as_mut_ptr(), out.len(), c.as_ptr(), c.len(), block, length) });
+            let block = unsafe { Block::of(|block, length| $function(out.as_mut_ptr(), out.len(), c.as_ptr(), c.len(), block, length)) };
             block.answer(&[], out)
         })*
     };
@@ -110,56 +117,66 @@ extern "C" {
 }
 
 /// A set of strings from a place on; count 0 is how many.
+#[inline]
 pub fn read_string_set<'r>(s: &[u8], at: usize, entries: &'r mut [u8]) -> Result<Answer<'r>, Refusal> {
     // SAFETY: as raw.rs says.
     let block =
-        Block::of(|block, length| unsafe { lintelow_read_string_set(s.as_ptr(), s.len(), at, entries.as_mut_ptr(), entries.len(), block, length) });
+        unsafe { Block::of(|block, length| lintelow_read_string_set(s.as_ptr(), s.len(), at, entries.as_mut_ptr(), entries.len(), block, length)) };
     block.answer(entries, &[])
 }
 
 /// Framed data from a place on.
+#[inline]
 pub fn read_framed<'r>(s: &[u8], at: usize, payload: &'r mut [u8]) -> Result<Answer<'r>, Refusal> {
     // SAFETY: as raw.rs says.
     let block =
-        Block::of(|block, length| unsafe { lintelow_read_framed(s.as_ptr(), s.len(), at, payload.as_mut_ptr(), payload.len(), block, length) });
+        unsafe { Block::of(|block, length| lintelow_read_framed(s.as_ptr(), s.len(), at, payload.as_mut_ptr(), payload.len(), block, length)) };
     block.answer(&[], payload)
 }
 
 /// A set of the first `count` entries' strings, which are parts of `bytes`. Refused by 11 where there are fewer entries, by 12 where one of them passes
 /// the end of the bytes, by 3 where one is no text.
+#[inline]
 pub fn write_string_set<'r>(out: &'r mut [u8], bytes: &[u8], entries: &[u8], count: usize) -> Result<Answer<'r>, Refusal> {
     // SAFETY: as raw.rs says.
-    let block = Block::of(|block, length| unsafe {
-        lintelow_write_string_set(out.as_mut_ptr(), out.len(), bytes.as_ptr(), bytes.len(), entries.as_ptr(), entries.len(), count, block, length)
-    });
+    let block = unsafe {
+        Block::of(|block, length| {
+            let (room, given) = (out.as_mut_ptr(), out.len());
+            lintelow_write_string_set(room, given, bytes.as_ptr(), bytes.len(), entries.as_ptr(), entries.len(), count, block, length)
+        })
+    };
     block.answer(&[], out)
 }
 
 /// Kind 1 where the bytes are a store path, else 0.
+#[inline]
 pub fn extract_store_path(c: &[u8]) -> Result<Answer<'static>, Refusal> {
     // SAFETY: as raw.rs says.
-    let block = Block::of(|block, length| unsafe { lintelow_extract_store_path(c.as_ptr(), c.len(), block, length) });
+    let block = unsafe { Block::of(|block, length| lintelow_extract_store_path(c.as_ptr(), c.len(), block, length)) };
     block.answer(&[], &[])
 }
 
 /// The entry at an index, as the answer's own entry, if it stands within the bytes; else 11 or 12.
+#[inline]
 pub fn entry(bytes: &[u8], entries: &[u8], index: usize) -> Result<Answer<'static>, Refusal> {
     // SAFETY: as raw.rs says.
     let block =
-        Block::of(|block, length| unsafe { lintelow_entry(bytes.as_ptr(), bytes.len(), entries.as_ptr(), entries.len(), index, block, length) });
+        unsafe { Block::of(|block, length| lintelow_entry(bytes.as_ptr(), bytes.len(), entries.as_ptr(), entries.len(), index, block, length)) };
     block.answer(&[], &[])
 }
 
 /// Kind 1 where the client sends framed data with the operation, else 0; 9 for a number that is no operation's.
+#[inline]
 pub fn op_has_client_framed_data(op: u64) -> Result<Answer<'static>, Refusal> {
     // SAFETY: as raw.rs says.
-    let block = Block::of(|block, length| unsafe { lintelow_op_has_client_framed_data(op, block, length) });
+    let block = unsafe { Block::of(|block, length| lintelow_op_has_client_framed_data(op, block, length)) };
     block.answer(&[], &[])
 }
 
 /// Numbers 0 and 1 are major and minor of the version that a number stands for.
+#[inline]
 pub fn version_from_wire(wire: u64) -> Result<Answer<'static>, Refusal> {
     // SAFETY: as raw.rs says.
-    let block = Block::of(|block, length| unsafe { lintelow_version_from_wire(wire, block, length) });
+    let block = unsafe { Block::of(|block, length| lintelow_version_from_wire(wire, block, length)) };
     block.answer(&[], &[])
 }

@@ -8,7 +8,7 @@ returns : tie.Need-returns
 returns c = remains (c .before .before .before .args .self) _ _ _ _ (c .enum-told2 .given .1)
 
 returns-2 : tie.Need-returns-2
-returns-2 c = turn-fine (c .before .before .before .before .before .before .before .args .of-daemon) _ _ _ (c .before .before .before .before .before .before .before .args .self) (c .before .before .before .before .enum-told .given .1) _ (c .before .before .before .either .ensures) _ (c .before .judge .ensures) _ (c .after .ensures)
+returns-2 c = turn-fine (c .before .before .before .before .before .before .before .args .of-daemon) _ _ _ (c .before .before .before .before .before .before .before .args .self) (c .before .before .before .before .enum-told .given .1) _ (c .before .before .before .either .ensures) _ (c .before .judge-record .ensures) _ (c .after .ensures)
 
 pub turn-spec : {M : Type 1} → statement M
 turn-spec =

@@ -1,0 +1,133 @@
+//! Calls one by one, as a recorder makes them: at the C boundary, by the crate's layer `raw`, and by nix-wire.
+mod boundary;
+mod layer;
+pub mod recorded;
+mod same;
+pub mod short;
+mod theirs;
+
+use crate::measure::{self, Times};
+use crate::memory::{self, Allocated};
+use crate::Side;
+use boundary::Boundary;
+use layer::Layer;
+use lintelow::raw::ENTRY;
+use lintelow::Version;
+use std::hint::black_box;
+
+#[derive(Clone, Copy, PartialEq, Eq)]
+pub enum What {
+    ReadArguments,
+    SkipArguments,
+    StderrWithError,
+    StderrLoop,
+    ReadReply,
+    SkipReply,
+}
+
+/// What is asked of which bytes, the call's own part of a stream.
+#[derive(Clone, Copy)]
+pub struct Call<'s> {
+    pub op: u64,
+    pub version: Version,
+    pub bytes: &'s [u8],
+}
+
+/// Calls of one kind, under the name of their row.
+pub struct Calls<'s> {
+    pub name: String,
+    pub what: What,
+    pub calls: Vec<Call<'s>>,
+    /// How many more there were, which the sides do not read.
+    pub left_out: usize,
+}
+
+/// Room that is enough for any of the calls. It is lent to one after the other, and not cleared between them.
+struct Room {
+    entries: Vec<u8>,
+    payload: Vec<u8>,
+}
+
+impl Room {
+    fn enough(calls: &[Call]) -> Room {
+        let longest = calls.iter().map(|call| call.bytes.len()).max().unwrap_or_default();
+        // A kept string has a length of eight bytes in the stream, and a payload's bytes stand there too.
+        Room { entries: vec![0; longest / 8 * ENTRY], payload: vec![0; longest] }
+    }
+}
+
+trait Caller {
+    fn prepare(&mut self) {}
+    /// Makes the calls in their order, and notes where each ended.
+    fn make(&mut self, ends: &mut [usize]);
+}
+
+struct Pass<'s> {
+    caller: Box<dyn Caller + 's>,
+    ends: Vec<usize>,
+}
+
+impl<'s> Pass<'s> {
+    fn new(calls: &Calls, caller: Box<dyn Caller + 's>) -> Pass<'s> {
+        Pass { caller, ends: vec![0; calls.calls.len()] }
+    }
+}
+
+impl Side for Pass<'_> {
+    /// The Rust's readers are made for each pass, so its passes are timed one by one. Ours are too: what that does to the processor, all sides bear.
+    fn needs_preparing(&self) -> bool {
+        true
+    }
+
+    fn prepare(&mut self) {
+        self.caller.prepare();
+    }
+
+    fn pass(&mut self) {
+        self.caller.make(&mut self.ends);
+        black_box(&self.ends);
+    }
+}
+
+/// The sides, by their places in what is measured.
+const BOUNDARY: usize = 0;
+const LAYER: usize = 1;
+const THEIRS: usize = 2;
+
+fn allocated(side: &mut dyn Side) -> Allocated {
+    side.prepare();
+    memory::allocated(|| side.pass())
+}
+
+/// Measures the three sides on the same calls, and writes a row of a table.
+pub fn row(table: &str, calls: &Calls, samples: usize) {
+    let mut boundary = Pass::new(calls, Box::new(Boundary::new(calls)));
+    let mut layer = Pass::new(calls, Box::new(Layer::new(calls)));
+    let mut theirs = Pass::new(calls, theirs::caller(calls));
+    let allocations = allocated(&mut boundary).number + allocated(&mut layer).number;
+    allocated(&mut theirs);
+    assert!(boundary.ends == theirs.ends && layer.ends == theirs.ends, "all sides end each call at the same byte");
+    let times = measure::measure(&mut [&mut boundary, &mut layer, &mut theirs], samples);
+    write(table, calls, &times, allocations);
+}
+
+fn write(table: &str, calls: &Calls, times: &Times, allocations: u64) {
+    let number = calls.calls.len();
+    let each = |side| times.median(side) / number as f64;
+    let (at_boundary, by_layer) = (times.ratio(THEIRS, BOUNDARY), times.ratio(THEIRS, LAYER));
+    let fields = [
+        table.to_string(),
+        calls.name.clone(),
+        number.to_string(),
+        calls.left_out.to_string(),
+        each(BOUNDARY).to_string(),
+        each(LAYER).to_string(),
+        each(THEIRS).to_string(),
+        at_boundary.median.to_string(),
+        by_layer.median.to_string(),
+        by_layer.low.to_string(),
+        by_layer.high.to_string(),
+        allocations.to_string(),
+    ];
+    println!("{}", fields.join("\t"));
+}

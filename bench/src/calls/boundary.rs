@@ -1,0 +1,81 @@
+//! Our side at the C boundary: the functions of include/lintelow.h, with a block and rooms lent to them, and nothing else.
+use super::{Call, Caller, Calls, Room, What};
+use lintelow::Version;
+
+extern "C" {
+    fn lintelow_read_op_args(
+        op: u64,
+        major: u16,
+        minor: u8,
+        s: *const u8,
+        s_len: usize,
+        entries: *mut u8,
+        entries_len: usize,
+        payload: *mut u8,
+        payload_len: usize,
+        block: *mut u8,
+        block_len: usize,
+    ) -> u64;
+    fn lintelow_skip_op_args(op: u64, major: u16, minor: u8, s: *const u8, s_len: usize, block: *mut u8, block_len: usize) -> u64;
+    fn lintelow_read_stderr_with_error(s: *const u8, s_len: usize, entries: *mut u8, entries_len: usize, block: *mut u8, block_len: usize) -> u64;
+    fn lintelow_read_stderr_loop(s: *const u8, s_len: usize, block: *mut u8, block_len: usize) -> u64;
+    fn lintelow_read_daemon_result(
+        op: u64,
+        major: u16,
+        minor: u8,
+        s: *const u8,
+        s_len: usize,
+        entries: *mut u8,
+        entries_len: usize,
+        payload: *mut u8,
+        payload_len: usize,
+        block: *mut u8,
+        block_len: usize,
+    ) -> u64;
+    fn lintelow_skip_daemon_result(op: u64, major: u16, minor: u8, s: *const u8, s_len: usize, block: *mut u8, block_len: usize) -> u64;
+}
+
+const BLOCK: usize = 200;
+/// Where the block has the end.
+const END: usize = 8 * 4;
+
+pub struct Boundary<'s> {
+    what: What,
+    calls: &'s [Call<'s>],
+    room: Room,
+    block: [u8; BLOCK],
+}
+
+impl<'s> Boundary<'s> {
+    pub fn new(calls: &'s Calls) -> Boundary<'s> {
+        Boundary { what: calls.what, calls: &calls.calls, room: Room::enough(&calls.calls), block: [0; BLOCK] }
+    }
+
+    /// What the function returns: 0, or the number of a refusal.
+    fn call(&mut self, call: &Call) -> u64 {
+        let Call { op, version: Version { major, minor }, bytes } = *call;
+        let (s, length, block) = (bytes.as_ptr(), bytes.len(), self.block.as_mut_ptr());
+        let (entries, slots) = (self.room.entries.as_mut_ptr(), self.room.entries.len());
+        let (payload, room) = (self.room.payload.as_mut_ptr(), self.room.payload.len());
+        // SAFETY: the declarations are those of the header; each pointer goes with the length of its own slice, and what is lent overlaps nothing.
+        unsafe {
+            match self.what {
+                What::ReadArguments => lintelow_read_op_args(op, major, minor, s, length, entries, slots, payload, room, block, BLOCK),
+                What::SkipArguments => lintelow_skip_op_args(op, major, minor, s, length, block, BLOCK),
+                What::StderrWithError => lintelow_read_stderr_with_error(s, length, entries, slots, block, BLOCK),
+                What::StderrLoop => lintelow_read_stderr_loop(s, length, block, BLOCK),
+                What::ReadReply => lintelow_read_daemon_result(op, major, minor, s, length, entries, slots, payload, room, block, BLOCK),
+                What::SkipReply => lintelow_skip_daemon_result(op, major, minor, s, length, block, BLOCK),
+            }
+        }
+    }
+}
+
+impl Caller for Boundary<'_> {
+    fn make(&mut self, ends: &mut [usize]) {
+        for (call, end) in self.calls.iter().zip(ends) {
+            assert!(self.call(call) == 0, "a call that is read");
+            *end = u64::from_le_bytes(*self.block[END..].first_chunk().expect("eight bytes")) as usize;
+        }
+    }
+}

@@ -1,0 +1,229 @@
+-- The tree of a state is that of its next item: by the next field and its gate, by the next run.
+use Prim.Native.Nat.{ℕ, zero, suc, _+_, _-_, _<_, _≤_}
+use mathlib.Core.Path.{_≡_, refl, sym, _∙_, ap, subst}
+use mathlib.Core.List.{List, _∷_}
+use mathlib.Core.Bool.{Bool, true, false, not}
+use lib.Dec.{eqb}
+use native.Mathlib.Omega.{arith}
+use borrow.Author.Tests.{eq-eqb, ne-eqb, eqb-true, lt-ltb, le-ltb}
+use Rattle.layouts.specs.Primitive.{pick, Version, version, atLeast}
+use Rattle.layouts.specs.Shape.{What, Item, always, from, below, Group, Tree, ask, stop, field, there, what, gated, fields, repeated, truth, group, groups, layout}
+use Rattle.table.specs.declared.Field.{Field}
+use Rattle.table.specs.declared.Run.{Run}
+use Rattle.table.specs.Packed.{fieldCount, runCount, fieldTable}
+use Rattle.table.specs.Table.{fieldAt, runAt, roleOf, slotOf, whatOf, itemOf, unlessEnd, consItem, items, itemsAt, groupOf, consRun, groupsAt}
+use Rattle.table.proofs.Tables.{items-step, groups-step, field-in, run-in}
+use Rattle.items.specs.declared.Layout.{Layout}
+use Rattle.items.specs.declared.Item as I
+use Rattle.items.specs.Items.{versionOf, layoutTree, isEmpty, runTree, restTree, timesOf, onto, itemTree, item, isThere, runItem, afterFields, fieldItem, nextItem, Falls}
+
+pub truth-some : (n : ℕ) → (n ≡ 0 → ⊥) → 1 ≡ truth n
+truth-some zero h = absurd (h refl)
+truth-some (suc n) h = refl
+
+-- the state before the first item
+pub layout-start : (l : Layout) → restTree (versionOf l) fieldCount 0 fieldCount (l .first) tt ≡ layoutTree l
+unfolding restTree runTree fields repeated layout itemsAt items fieldTable
+layout-start l = refl
+
+-- ---- an item by its kind
+module _ (v : Version) (r : I.Item) where
+  pub end-item : r .kind ≡ 0 → itemTree v r ≡ stop
+  unfolding itemTree
+  end-item k = rw k
+
+  pub quiet-item : r .kind ≡ 16 → itemTree v r ≡ onto v r (r .reps) tt
+  unfolding itemTree
+  quiet-item k = rw k
+
+  pub times-item : 16 ≤ r .kind → (r .kind ≡ 16 → ⊥) → itemTree v r ≡ ask (slotOf (r .slot)) (λ n. onto v r (timesOf (r .kind) n) tt)
+  unfolding itemTree
+  times-item a b = rw (ne-eqb (r .kind) 0 (λ k. omega arith), le-ltb (r .kind) 16 a, ne-eqb (r .kind) 16 b)
+
+  pub field-item : (r .kind ≡ 0 → ⊥) → r .kind < 16 → itemTree v r ≡ field (whatOf (r .kind) (roleOf (r .role)) (slotOf (r .slot))) (onto v r (r .reps))
+  unfolding itemTree
+  field-item a b = rw (ne-eqb (r .kind) 0 a, lt-ltb (r .kind) 16 b)
+
+-- ---- the next run
+again-by : (n : ℕ) (v : Version) (is : List Item) (k : Unit {0} → Tree) → 0 < n → repeated n v is k ≡ fields v is (λ u. repeated (n - 1) v is k)
+unfolding repeated
+again-by zero v is k h = absurd (omega arith)
+again-by (suc n) v is k h =
+    let e : suc n - 1 ≡ n = omega arith in
+    ap (λ (j : ℕ). fields v is (λ u. repeated j v is k)) (sym e)
+
+module _ (i : ℕ) (x : Run) (e : x ≡ runAt i) where
+  module _ (v : Version) (body : ℕ) where
+    run-cons : runTree v 0 body i tt ≡ groups v (consRun x (λ u. groupsAt (i + 1))) (λ u. stop)
+    unfolding runTree repeated
+    run-cons = rw e (ap (λ (gs : List Group). groups v gs (λ u. stop)) (groups-step i))
+
+    run-group : (x .kind ≡ 0 → ⊥) → runTree v 0 body i tt ≡ group v (groupOf (x .kind) (slotOf (x .slot)) (itemsAt (x .start))) (λ u. groups v (groupsAt (i + 1)) (λ u. stop))
+    unfolding groups consRun unlessEnd
+    run-group k = run-cons ∙ rw (ne-eqb (x .kind) 0 k)
+
+  abbrev RunMeets : I.Item → Type 0
+  RunMeets r = (r ≡ runItem i (runAt i)) × (((v : Version) (body : ℕ) → runTree v 0 body i tt ≡ itemTree v r) × ((pc : ℕ) → Falls pc 0 i r))
+
+  pub run-ends : x .kind ≡ 0 → RunMeets (item 0 0 0 fieldCount 0 fieldCount i)
+  unfolding itemTree groups consRun unlessEnd
+  run-ends k = (rw (← e, k), (λ v body. run-cons v body ∙ rw (eq-eqb (x .kind) 0 k), λ pc z l. absurd (z refl)))
+
+  pub run-flag : x .kind ≡ 2 → RunMeets (item 17 0 (x .slot) fieldCount 0 (x .start) (i + 1))
+  unfolding itemTree group groupOf restTree runTree fields itemsAt items fieldTable
+  run-flag k = (rw (← e, k), (λ v body. run-group v body (λ h. let y : _≡_ {A = ℕ} 0 2 = sym h ∙ k in omega arith) ∙ rw k, λ pc z l. absurd (omega arith)))
+
+  pub run-count : x .kind ≡ 3 → RunMeets (item 18 0 (x .slot) fieldCount 0 (x .start) (i + 1))
+  unfolding itemTree group groupOf restTree runTree fields itemsAt items fieldTable
+  run-count k = (rw (← e, k), (λ v body. run-group v body (λ h. let y : _≡_ {A = ℕ} 0 3 = sym h ∙ k in omega arith) ∙ rw k, λ pc z l. absurd (omega arith)))
+
+  pub run-starts : (x .kind ≡ 0 → ⊥) → (x .kind ≡ 2 → ⊥) → (x .kind ≡ 3 → ⊥) → RunMeets (item 16 0 0 (x .start) 0 (x .start) (i + 1))
+  unfolding itemTree group groupOf restTree runTree repeated
+  run-starts a b c = (
+    rw (← e, ne-eqb (x .kind) 0 a, ne-eqb (x .kind) 2 b, ne-eqb (x .kind) 3 c),
+    (λ v body. run-group v body a ∙ rw (ne-eqb (x .kind) 2 b, ne-eqb (x .kind) 3 c), λ pc z l. let h = run-in i x e a in omega arith),
+  )
+
+module _ (reps body i : ℕ) where
+  abbrev AfterMeets : I.Item → Type 0
+  AfterMeets r = (r ≡ afterFields reps body i) × (((v : Version) → runTree v reps body i tt ≡ itemTree v r) × ((pc : ℕ) → Falls pc reps i r))
+
+  pub run-again : 0 < reps → AfterMeets (item 16 0 0 body (reps - 1) body i)
+  unfolding itemTree runTree restTree
+  run-again h = (rw (lt-ltb 0 reps h), (λ v. again-by reps v (itemsAt body) (λ u. groups v (groupsAt i) (λ u. stop)) h, λ pc z l. omega arith))
+
+  pub none-again : (r : I.Item) → reps ≤ 0 → (r ≡ runItem i (runAt i)) × (((v : Version) (body : ℕ) → runTree v 0 body i tt ≡ itemTree v r) × ((pc : ℕ) → Falls pc 0 i r)) → AfterMeets r
+  none-again r h m =
+      let z : reps ≡ 0 = omega arith in
+      (rw (le-ltb 0 reps h) (m .0), (λ v. ap (λ (n : ℕ). runTree v n body i tt) z ∙ m .1 .0 v body, λ pc. subst (λ (n : ℕ). Falls pc n i r) (sym z) (m .1 .1 pc)))
+
+-- ---- the next field
+module _ (v : Version) (gate minor : ℕ) (w : What) where
+  there-by : (a b : Bool) → there v (pick a (always w) (pick b (from minor w) (below minor w))) ≡ pick a true (pick b (atLeast v (version 1 minor)) (not (atLeast v (version 1 minor))))
+  there-by true b = refl
+  there-by false true = refl
+  there-by false false = refl
+
+  there-item : there v (itemOf gate minor w) ≡ isThere v gate minor
+  unfolding itemOf
+  there-item = there-by (eqb gate 0) (eqb gate 1)
+
+  what-by : (a b : Bool) → what (pick a (always w) (pick b (from minor w) (below minor w))) ≡ w
+  what-by true b = refl
+  what-by false true = refl
+  what-by false false = refl
+
+  what-item : what (itemOf gate minor w) ≡ w
+  unfolding itemOf
+  what-item = what-by (eqb gate 0) (eqb gate 1)
+
+not-true : (b : Bool) → not b ≡ true → b ≡ false
+not-true true e = let z : _≡_ {A = ℕ} 0 1 = cc in absurd (omega arith)
+not-true false e = refl
+
+not-false : (b : Bool) → not b ≡ false → b ≡ true
+not-false true e = refl
+not-false false e = let z : _≡_ {A = ℕ} 0 1 = cc in absurd (omega arith)
+
+not-so : false ≡ true → ⊥
+not-so e = let z : _≡_ {A = ℕ} 0 1 = cc in omega arith
+
+small-kind : (pc : ℕ) (f : Field) → f ≡ fieldAt pc → f .kind < 16
+unfolding fieldAt
+small-kind pc f e = rw e (omega arith)
+
+module _ (v : Version) (pc reps body i : ℕ) (f : Field) (e : f ≡ fieldAt pc) where
+  abbrev whatIs : What
+  whatIs = whatOf (f .kind) (roleOf (f .role)) (slotOf (f .slot))
+
+  abbrev later : Unit {0} → Tree
+  later = restTree v (pc + 1) reps body i
+
+  rest-cons : restTree v pc reps body i tt ≡ fields v (consItem f (λ u. itemsAt (pc + 1))) (runTree v reps body i)
+  unfolding restTree
+  rest-cons = rw e (ap (λ (is : List Item). fields v is (runTree v reps body i)) (items-step pc))
+
+  abbrev Meets : I.Item → Type 0
+  Meets r = (r ≡ nextItem v pc reps body i) × ((restTree v pc reps body i tt ≡ itemTree v r) × Falls pc reps i r)
+
+  said : (r : I.Item) → r ≡ fieldItem v pc reps body i f → r ≡ nextItem v pc reps body i
+  unfolding nextItem
+  said r h = h ∙ ap (fieldItem v pc reps body i) e
+
+  pub field-none : f .kind ≡ 0 → restTree v pc reps body i tt ≡ runTree v reps body i tt
+  unfolding fields consItem unlessEnd
+  field-none k = rest-cons ∙ rw (eq-eqb (f .kind) 0 k)
+
+  pub field-ends : (r : I.Item) → f .kind ≡ 0 → (r ≡ afterFields reps body i) × (((v : Version) → runTree v reps body i tt ≡ itemTree v r) × ((pc : ℕ) → Falls pc reps i r)) → Meets r
+  unfolding fields consItem unlessEnd
+  field-ends r k m = (said r (rw (eq-eqb (f .kind) 0 k) (m .0)), (rest-cons ∙ rw (eq-eqb (f .kind) 0 k) (m .1 .0 v), m .1 .1 pc))
+
+  module _ (a : f .kind ≡ 0 → ⊥) (b : Bool) (q : b ≡ isThere v (f .gate) (f .minor)) where
+    abbrev one : Item
+    one = itemOf (f .gate) (f .minor) whatIs
+
+    rest-item : restTree v pc reps body i tt ≡ fields v (one ∷ itemsAt (pc + 1)) (runTree v reps body i)
+    unfolding consItem unlessEnd
+    rest-item = rest-cons ∙ rw (ne-eqb (f .kind) 0 a)
+
+    item-gated : (y : Item) → fields v (y ∷ itemsAt (pc + 1)) (runTree v reps body i) ≡ gated (there v y) (what y) later
+    unfolding fields restTree runTree
+    item-gated y = refl
+
+    rest-gated : restTree v pc reps body i tt ≡ gated b whatIs later
+    rest-gated =
+        rest-item ∙ item-gated one
+        ∙ ap (λ (y : Bool). gated y (what one) later) (there-item v (f .gate) (f .minor) whatIs ∙ sym q)
+        ∙ ap (λ (w : What). gated b w later) (what-item v (f .gate) (f .minor) whatIs)
+
+    pub field-absent : not b ≡ true → Meets (item 16 0 0 (pc + 1) reps body i)
+    unfolding itemTree gated
+    field-absent h = (
+      said _ (rw (ne-eqb (f .kind) 0 a, ← q, not-true b h)),
+      (rest-gated ∙ ap (λ (y : Bool). gated y whatIs later) (not-true b h), λ y k. let z = field-in pc f e a in omega arith),
+    )
+
+    pub field-here : not b ≡ false → Meets (item (f .kind) (f .role) (f .slot) (pc + 1) reps body i)
+    unfolding gated
+    field-here h =
+        let z = small-kind pc f e in (
+          said _ (rw (ne-eqb (f .kind) 0 a, ← q, not-false b h)),
+          (
+            rest-gated ∙ ap (λ (y : Bool). gated y whatIs later) (not-false b h) ∙ sym (field-item v (item (f .kind) (f .role) (f .slot) (pc + 1) reps body i) a z),
+            λ y k. let g = field-in pc f e a in omega arith,
+          ),
+        )
+
+-- ---- a layout without fields
+module _ (l : Layout) where
+  first-run : layoutTree l ≡ runTree (versionOf l) 0 fieldCount (l .first) tt
+  unfolding restTree fields itemsAt items fieldTable
+  first-run = sym (layout-start l)
+
+  abbrev Empties : Bool → Type 0
+  Empties b = (b ≡ isEmpty (l .first)) × (b ≡ true → layoutTree l ≡ stop)
+
+  module _ (x : Run) (e : x ≡ runAt (l .first)) where
+    pub empty-none : x .kind ≡ 0 → Empties true
+    empty-none k = (rw (← e, eq-eqb (x .kind) 0 k), λ y. first-run ∙ run-ends (l .first) x e k .1 .0 (versionOf l) fieldCount ∙ end-item (versionOf l) _ refl)
+
+    module _ (a : x .kind ≡ 0 → ⊥) where
+      pub empty-counted : (x .kind ≡ 1 → ⊥) → Empties false
+      empty-counted h = (rw (← e, ne-eqb (x .kind) 0 a, ne-eqb (x .kind) 1 h), λ y. absurd (not-so y))
+
+      module _ (k : x .kind ≡ 1) (f : Field) (g : f ≡ fieldAt (x .start)) where
+        pub empty-fields : (f .kind ≡ 0 → ⊥) → Empties false
+        empty-fields h = (rw (← e, ne-eqb (x .kind) 0 a, eq-eqb (x .kind) 1 k, ← g, ne-eqb (f .kind) 0 h), λ y. absurd (not-so y))
+
+        module _ (h : f .kind ≡ 0) (z : Run) (q : z ≡ runAt (l .first + 1)) where
+          last-by : (b : Bool) → eqb (z .kind) 0 ≡ b → b ≡ true → layoutTree l ≡ stop
+          last-by b w y =
+              let v = versionOf l in
+              first-run
+              ∙ run-starts (l .first) x e a (λ u. let r : _≡_ {A = ℕ} 1 2 = sym k ∙ u in omega arith) (λ u. let r : _≡_ {A = ℕ} 1 3 = sym k ∙ u in omega arith) .1 .0 v fieldCount
+              ∙ quiet-item v (item 16 0 0 (x .start) 0 (x .start) (l .first + 1)) refl
+              ∙ field-none v (x .start) 0 (x .start) (l .first + 1) f g h
+              ∙ run-ends (l .first + 1) z q (eqb-true (z .kind) 0 (w ∙ y)) .1 .0 v (x .start) ∙ end-item v _ refl
+
+          pub empty-last : Empties (eqb (z .kind) 0)
+          empty-last = (rw (← e, ne-eqb (x .kind) 0 a, eq-eqb (x .kind) 1 k, ← g, eq-eqb (f .kind) 0 h, ← q), λ y. last-by (eqb (z .kind) 0) refl y)

@@ -1,0 +1,194 @@
+// The items of a layout, one a call, without a stream: the next field, the flag or count that a run begins with, a place where nothing is read, the end.
+// The state is four numbers, which a fold keeps in locals of its own. Any state is an input like any other.
+ghost use mathlib.Core.Path.{_≡_};
+ghost use Prim.Native.Nat.{ℕ};
+ghost use mathlib.Core.Bool.{true};
+ghost use Rattle.layouts.specs.Primitive.{Version, version};
+ghost use Rattle.layouts.specs.Shape.{stop};
+ghost use Rattle.table.specs.Table.{runAt};
+ghost use Rattle.items.specs.Items.{versionOf, layoutTree, isEmpty, isThere, runTree, restTree, timesOf, itemTree, runItem, afterFields, nextItem, Falls};
+
+// Kinds of items besides those of fields, which are below 16: nothing to read; a flag, or a count, that says how often the body comes.
+pub const QUIET: u8 = 16;
+
+pub const FLAG: u8 = 17;
+
+pub const COUNT: u8 = 18;
+
+// What chooses a layout: the version that is spoken, and the first of its runs in the table.
+pub struct Layout {
+    pub major: u16,
+    pub minor: u8,
+    pub first: usize,
+}
+
+// What comes next, and the state after it: the place of the next field, how often the body comes again, the place of the body, the next run.
+pub struct Item {
+    pub kind: u8,
+    pub role: u8,
+    pub slot: u8,
+    pub pc: usize,
+    pub reps: u64,
+    pub body: usize,
+    pub run: usize,
+}
+
+// Does the layout have no field at all? Many calls have none, and need no fold.
+pub fn is_empty(layout: Layout) -> bool
+    ensures said { λ r. ⌜ r ≡ isEmpty (layout .first) ⌝ }
+    ensures law { λ r. ⌜ (r ≡ true → layoutTree layout ≡ stop) ⌝ }
+{
+    let i = layout.first;
+    let x = field_runs::packed(i);
+    let kind = (x % 4) as u8;
+    if kind == table::END {
+        return true;
+    }
+    if kind != table::ONCE {
+        return false;
+    }
+    let y = fields::packed((x / 256) as usize);
+    if (y % 16) as u8 != table::END {
+        return false;
+    }
+    let z = field_runs::packed(i + 1);
+    (z % 4) as u8 == table::END
+}
+
+// Is a field with this gate there at a version?
+fn is_there(layout: Layout, gate: u8, bound: u8) -> bool
+    ensures { λ r. ⌜ r ≡ isThere (versionOf layout) gate bound ⌝ }
+{
+    if gate == table::ALWAYS {
+        return true;
+    }
+    let reached = kinds::at_least(layout.major, layout.minor, bound);
+    if gate == table::FROM {
+        return reached;
+    }
+    !reached
+}
+
+// How often a body comes, by its flag or count.
+pub fn times(kind: u8, n: u64) -> u64
+    ensures { λ r. ⌜ r ≡ timesOf kind n ⌝ }
+{
+    if kind == FLAG {
+        if n == 0 {
+            return 0;
+        }
+        return 1;
+    }
+    n
+}
+
+// All times done: the next run.
+fn next_run(i: usize) -> Item
+    ensures said { λ r. ⌜ r ≡ runItem i (runAt i) ⌝ }
+    ensures law { λ r. ⌜ ((v : Version) (body : ℕ) → runTree v 0 body i tt ≡ itemTree v r) ⌝ }
+    ensures falls { λ r. ⌜ ((pc : ℕ) → Falls pc 0 i r) ⌝ }
+{
+    let x = field_runs::packed(i);
+    let kind = (x % 4) as u8;
+    let slot = (x / 4 % 64) as u8;
+    let start = (x / 256) as usize;
+    if kind == table::END {
+        return Item {
+            kind: table::END,
+            role: 0,
+            slot: 0,
+            pc: table::FIELD_COUNT,
+            reps: 0,
+            body: table::FIELD_COUNT,
+            run: i,
+        };
+    }
+    let later = i + 1;
+    if kind == table::OPT {
+        return Item {
+            kind: FLAG,
+            role: 0,
+            slot: slot,
+            pc: table::FIELD_COUNT,
+            reps: 0,
+            body: start,
+            run: later,
+        };
+    }
+    if kind == table::MANY {
+        return Item {
+            kind: COUNT,
+            role: 0,
+            slot: slot,
+            pc: table::FIELD_COUNT,
+            reps: 0,
+            body: start,
+            run: later,
+        };
+    }
+    Item {
+        kind: QUIET,
+        role: 0,
+        slot: 0,
+        pc: start,
+        reps: 0,
+        body: start,
+        run: later,
+    }
+}
+
+// At the end of a run of fields: once more, or the next run.
+fn after_fields(reps: u64, body: usize, run: usize) -> Item
+    ensures said { λ r. ⌜ r ≡ afterFields reps body run ⌝ }
+    ensures law { λ r. ⌜ ((v : Version) → runTree v reps body run tt ≡ itemTree v r) ⌝ }
+    ensures falls { λ r. ⌜ ((pc : ℕ) → Falls pc reps run r) ⌝ }
+{
+    if 0 < reps {
+        return Item {
+            kind: QUIET,
+            role: 0,
+            slot: 0,
+            pc: body,
+            reps: reps - 1,
+            body: body,
+            run: run,
+        };
+    }
+    next_run(run)
+}
+
+pub fn next(layout: Layout, pc: usize, reps: u64, body: usize, run: usize) -> Item
+    ensures said { λ r. ⌜ r ≡ nextItem (versionOf layout) pc reps body run ⌝ }
+    ensures law { λ r. ⌜ restTree (versionOf layout) pc reps body run tt ≡ itemTree (versionOf layout) r ⌝ }
+    ensures falls { λ r. ⌜ Falls pc reps run r ⌝ }
+{
+    let x = fields::packed(pc);
+    let kind = (x % 16) as u8;
+    if kind == table::END {
+        return after_fields(reps, body, run);
+    }
+    let later = pc + 1;
+    let gate = (x / 4096 % 4) as u8;
+    let bound = (x / 16384 % 256) as u8;
+    let here = is_there(layout, gate, bound);
+    if !here {
+        return Item {
+            kind: QUIET,
+            role: 0,
+            slot: 0,
+            pc: later,
+            reps: reps,
+            body: body,
+            run: run,
+        };
+    }
+    Item {
+        kind: kind,
+        role: (x / 16 % 4) as u8,
+        slot: (x / 64 % 64) as u8,
+        pc: later,
+        reps: reps,
+        body: body,
+        run: run,
+    }
+}

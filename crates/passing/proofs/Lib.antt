@@ -1,0 +1,3 @@
+-- They serve the folds.
+pub mod Passing
+pub mod Moving

@@ -1,0 +1,34 @@
+-- A place of a list of rows, and one past its end.
+use Prim.Native.Nat.{ℕ, zero, suc, _≤_, _<_}
+use mathlib.Core.Path.{_≡_, refl}
+use mathlib.Core.List.{List, [], _∷_}
+use native.Mathlib.Nat.{not-suc-le-zero, le-of-suc-le-suc}
+use lib.ListN.{length, getD}
+use Rattle.table.specs.declared.Row.{Row}
+use Rattle.table.specs.declared.Found.the-variants as F
+use Rattle.table.specs.Packed.{rows}
+use Rattle.table.specs.Table.{rowIn, rowAt}
+
+row-past : (rs : List Row) (i : ℕ) → length rs ≤ i → F.Unknown ≡ rowIn rs i
+unfolding rowIn
+row-past [] i h = refl
+row-past (r ∷ rs) zero h = absurd (not-suc-le-zero h)
+row-past (r ∷ rs) (suc i) h = row-past rs i (le-of-suc-le-suc h)
+
+-- past its end an array reads as zeros
+abbrev none : Row
+none = record { number = 0; arguments = 0; skipped = 0; reply = 0; «arguments_kind» = 0; «skipped_kind» = 0; «reply_kind» = 0 }
+
+row-in : (rs : List Row) (i : ℕ) → i < length rs → F.Row (getD rs i none) ≡ rowIn rs i
+unfolding rowIn
+row-in [] i h = absurd (not-suc-le-zero h)
+row-in (r ∷ rs) zero h = refl
+row-in (r ∷ rs) (suc i) h = row-in rs i (le-of-suc-le-suc h)
+
+pub no-place : (i : ℕ) → length rows ≤ i → F.Unknown ≡ rowAt i
+unfolding rowAt
+no-place i h = row-past rows i h
+
+pub a-place : (i : ℕ) → i < length rows → F.Row (getD rows i none) ≡ rowAt i
+unfolding rowAt
+a-place i h = row-in rows i h

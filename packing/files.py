@@ -1,0 +1,357 @@
+"""The files that have the packed tables: their texts, with the tables in place of the words that have a `$`."""
+import collections
+import string
+
+from packing.layouts import ANSWERS, FIRST_CODE, LAYOUTS, all_kinds, constant, kind_name, number_of, shape_of
+
+MADE = "Made by ./tables from crates/layouts/specs and crates/table/specs/Claims.antt"
+
+PACKED = """-- $made: the packed tables of the code.
+use Prim.Native.Nat.{ℕ}
+use mathlib.Core.List.{List, [], _∷_}
+use Rattle.table.specs.declared.Row.{Row}
+use Rattle.table.specs.Numbered.{Numbered, just, byVersion, byFlag}
+
+abbrev pub fieldCount : ℕ
+fieldCount = $field_count
+
+abbrev pub runCount : ℕ
+runCount = $run_count
+
+abbrev pub fieldList : List ℕ
+fieldList =
+$fields
+    []
+
+abbrev pub runList : List ℕ
+runList =
+$runs
+    []
+
+-- number; runs of arguments, skipped arguments, reply; the codes of their kinds
+abbrev op : (number arguments skipped reply argumentsKind skippedKind replyKind : ℕ) → Row
+op n a k r ak kk rk = record { number = n; arguments = a; skipped = k; reply = r; «arguments_kind» = ak; «skipped_kind» = kk; «reply_kind» = rk }
+
+abbrev pub rows : List Row
+rows =
+$rows
+    []
+
+-- the runs of the other layouts
+$others
+
+-- the kinds that a version or a flag decides; their codes count from here on
+abbrev pub firstCode : ℕ
+firstCode = $first_code
+
+abbrev pub kindList : List Numbered
+kindList =
+$kinds
+    []
+
+-- the same under names that stay shut
+unfoldable pub fieldTable : List ℕ
+fieldTable = fieldList
+
+unfoldable pub runTable : List ℕ
+runTable = runList
+"""
+
+CODES = """// $made: the packed ${what}s. A match becomes one load.
+ghost use mathlib.Core.Path.{_≡_};
+ghost use lib.ListN.{getD};
+ghost use Rattle.table.specs.Packed.{${what}List};
+
+pub fn ${what}_code(i: usize) -> u64
+    ensures { λ r. ⌜ r ≡ getD ${what}List i 0 ⌝ }
+{
+    match i {
+$arms
+        _ => 0,
+    }
+}
+"""
+
+CODES_PROOF = """-- $made: an arm of `${what}_code` is an entry of the list, and the last arm lies past its end.
+use Rattle.$crate.proofs.codes.${what}_code.Statement.{statement}
+use Rattle.$crate.proofs.codes.${what}_code.Tie as tie
+use Rattle.table.proofs.Tables.{entry, missed, getD-past}
+use Rattle.table.specs.Packed.{${what}Count, ${what}List}
+
+pub ${what}-code-spec : {M : Type 1} → statement M
+${what}-code-spec =
+    tie.close
+    (tie.spec
+$arms
+    (λ c. let i = c .before .args .i in getD-past ${what}List i 0 (missed ${what}Count i (c .match .rest))))
+"""
+
+PLACES = """// $made: where the runs of each layout begin.
+
+// How many fields there are; this is also the place of an empty run of fields.
+pub const FIELD_COUNT: usize = $field_count;
+
+// ---- the layouts outside of the table of operations
+
+$others
+
+// ---- the layouts of operations, each named after its definition, or else after the first operation that has it
+
+$layouts
+"""
+
+KINDS = """// $made: the kinds of answers.
+
+$kinds
+
+// ---- the codes of kinds that a version or a flag decides
+
+$codes
+"""
+
+OPERATIONS = """// $made: the operations as one constant table.
+use table::Row;
+use table::kinds as kind;
+use table::places as layout;
+
+pub const COUNT: usize = $count;
+
+pub const OPERATIONS: [Row; COUNT] = [
+$rows
+];
+"""
+
+ROW = """    // $number. Arguments: $arguments_shape. Reply: $reply_shape
+    Row {
+        number: $number,
+        arguments: layout::$arguments,
+        skipped: layout::$skipped,
+        reply: layout::$reply,
+        arguments_kind: kind::$arguments_kind,
+        skipped_kind: kind::$skipped_kind,
+        reply_kind: kind::$reply_kind,
+    },"""
+
+ROW_CODES = """// $made: the rows of the operations, by number. A match becomes one load.
+ghost use Rattle.operations.specs.Rows.{rowOf};
+ghost use Rattle.table.specs.Table.{rowFor};
+ghost use mathlib.Core.Path.{_≡_};
+
+pub fn row_code(op: u64) -> u64
+    ensures { λ r. ⌜ rowOf op r ≡ rowFor op ⌝ }
+{
+    match op {
+$arms
+        _ => 0,
+    }
+}
+"""
+
+ROW_CODES_PROOF = """-- $made: `row_code` arm by arm, and no row has another number.
+use Rattle.operations.proofs.codes.row_code.Statement.{statement}
+use Rattle.operations.proofs.codes.row_code.Tie as tie
+use mathlib.Core.Path.{refl}
+use Rattle.table.specs.Table.{findIn, rowFor}
+use Rattle.operations.specs.Rows.{rowOf}
+use Rattle.operations.proofs.Search.{arm, none}
+
+pub row-code-spec : {M : Type 1} → statement M
+unfolding rowOf rowFor findIn
+row-code-spec =
+    tie.close
+    (tie.spec
+$arms
+    (λ c. none _ (c .match .rest)))
+"""
+
+KIND_CODES = """// $made: the kind that a code stands for. Only a code that a version or a flag decides is not its own kind.
+ghost use Rattle.layouts.specs.Primitive.{version};
+ghost use Rattle.table.specs.Table.{kindNumbered};
+ghost use mathlib.Core.Path.{_≡_};
+use crate::either;
+use crate::since;
+use table::kinds as kind;
+
+pub fn decided(code: u8, major: u16, minor: u8, present: bool) -> u8
+    ensures { λ r. ⌜ r ≡ kindNumbered (version major minor) present code ⌝ }
+{
+    match code {
+$arms
+        _ => code,
+    }
+}
+"""
+
+KIND_CODES_PROOF = """-- $made: `decided` way by way, and in the last arm the code is none of the list.
+use borrow.Author.Needs.{needs}
+use Rattle.kinds.proofs.codes.decided.Statement.{statement}
+use Rattle.kinds.proofs.codes.decided.Tie as tie
+use Rattle.table.specs.Table.{numberedOf}
+use Rattle.kinds.proofs.Itself.{itself}
+
+pub decided-spec : {M : Type 1} → statement M
+unfolding numberedOf
+decided-spec =
+    tie.close
+    (tie.spec
+$calls
+$arms
+    (λ c. itself _ _ _ (c .match .rest)))
+"""
+
+
+def filled(text, **parts):
+    parts = {name: part if isinstance(part, str) else "\n".join(part) for name, part in parts.items()}
+    return string.Template(text).substitute(parts, made=MADE)
+
+
+# ---- fields and runs
+
+
+def listed(sequences):
+    """The numbers as lines of an antt list, each sequence below what it stands for."""
+    places = [*sequences.begun, len(sequences.numbers)]
+    for at, end in zip(places, places[1:]):
+        yield f"    -- {at}: {sequences.begun[at]}"
+        yield "    " + " ".join(f"{number} ∷" for number in sequences.numbers[at:end])
+
+
+def packed(t):
+    return filled(
+        PACKED,
+        field_count=str(len(t.fields.numbers)),
+        run_count=str(len(t.runs.numbers)),
+        fields=listed(t.fields),
+        runs=listed(t.runs),
+        rows=(f"    op {' '.join(map(str, t.row_numbers(row)))} ∷" for row in t.rows),
+        others="\n\n".join(f"abbrev pub {name} : ℕ\n{name} = {t.places[groups]}" for name, groups in t.others.items()),
+        first_code=str(FIRST_CODE),
+        kinds=(f"    {numbered(kind)[1:-1]} ∷" for kind in t.kinds),
+    )
+
+
+def codes(what, sequences):
+    arms = []
+    for at, number in enumerate(sequences.numbers):
+        arms += [f"        // {sequences.begun[at]}"] if at in sequences.begun else []
+        arms.append(f"        {at} => {number},")
+    return filled(CODES, what=what, arms=arms)
+
+
+def codes_proof(crate, what, sequences):
+    arms = (f"    (λ c. entry {what}List (c .match .keys{i}))" for i, _ in enumerate(sequences.numbers, 1))
+    return filled(CODES_PROOF, crate=crate, what=what, arms=arms)
+
+
+# ---- constants and rows
+
+
+def constants(of, named):
+    """Constants, each below what it stands for."""
+    return "\n\n".join((f"// {text}\n" if text else "") + f"pub const {name}: {of} = {number};" for name, number, text in named)
+
+
+def places(t):
+    others = ((constant(name), t.places[groups], shape_of(groups)) for name, groups in t.others.items())
+    layouts = ((name, t.places[groups], shape_of(groups)) for groups, name in t.names.items() if groups in t.places)
+    return filled(PLACES, field_count=str(len(t.fields.numbers)), others=constants("usize", others), layouts=constants("usize", layouts))
+
+
+def kinds(t):
+    plain = ((constant(kind.name), number_of(kind), "") for kind in all_kinds())
+    decided = ((t.kind_name(kind), t.kind_code(kind), t.kind_users(kind)) for kind in t.kinds)
+    return filled(KINDS, kinds=constants("u8", plain), codes=constants("u8", decided))
+
+
+def operation(t, row):
+    layouts = {field: t.names[row[column]] for column, field in LAYOUTS.items()}
+    answers = {field: t.kind_name(row[column]) for column, field in ANSWERS.items()}
+    return filled(ROW, number=str(row["code"]), arguments_shape=shape_of(row["arguments"]), reply_shape=shape_of(row["reply"]), **layouts, **answers)
+
+
+def operations(t):
+    return filled(OPERATIONS, count=str(len(t.rows)), rows=(operation(t, row) for row in t.rows))
+
+
+def row_codes(t):
+    return filled(ROW_CODES, arms=(f"        {row['code']} => {t.row_code(row)}," for row in t.rows))
+
+
+def row_codes_proof(t):
+    return filled(ROW_CODES_PROOF, arms=(f"    (λ c. arm {t.row_code(row)} (c .match .keys{i}) refl)" for i, row in enumerate(t.rows, 1)))
+
+
+# ---- kinds that a version or a flag decides
+
+
+def parted(kind):
+    """The function that decides a kind, what it is asked with, and the two kinds that it chooses from."""
+    *version, yes, no = kind.args
+    return ("since", ["major", "minor", str(version[0])], yes, no) if version else ("either", ["present"], yes, no)
+
+
+def numbered(kind):
+    """In the words of crates/table/specs/Numbered.antt."""
+    if kind.name == "just":
+        return f"(just {number_of(kind.args[0].args[0])})"
+    *version, yes, no = kind.args
+    return f"({' '.join([kind.name, *map(str, version), numbered(yes), numbered(no)])})"
+
+
+def decision(kind, indent):
+    """In calls, as the formatter lays them out: on one line where the arguments have 60 letters or fewer."""
+    if kind.name == "just":
+        return [f"{indent}kind::{kind_name(kind)}"]
+    function, asked, yes, no = parted(kind)
+    inner = indent + "    "
+    arguments = [[inner + word] for word in asked] + [decision(yes, inner), decision(no, inner)]
+    lines = [line for argument in arguments for line in [*argument[:-1], argument[-1] + ","]]
+    flat = " ".join(line.strip() for line in lines).removesuffix(",")
+    short = len(lines) == len(arguments) and len(flat) <= 60
+    return [f"{indent}{function}({flat})"] if short else [f"{indent}{function}(", *lines, f"{indent})"]
+
+
+def kind_codes(t):
+    arms = []
+    for kind in t.kinds:
+        # with a comment the formatter leaves the block a block, however short it is
+        arms += [f"        kind::{t.kind_name(kind)} => {{", f"            // {t.kind_users(kind)}", *decision(kind, " " * 12), "        }"]
+    return filled(KIND_CODES, arms=arms)
+
+
+def said(kind, count):
+    """The facts that the calls of a decision leave, in the order in which they are made. A function's calls are told apart by a number, from the second on."""
+    if kind.name == "just":
+        return []
+    function, _, yes, no = parted(kind)
+    inner = said(yes, count) + said(no, count)
+    count[function] += 1
+    return [*inner, f"{function}{count[function] if count[function] > 1 else ''} .ensures"]
+
+
+def kind_codes_proof(t):
+    count, calls, arms = collections.Counter(), [], []
+    for i, kind in enumerate(t.kinds, 1):
+        facts = said(kind, count)
+        calls += ["    (λ c κs. search needs)" for _ in facts]
+        # each fact is a place behind the one that came after it
+        paths = [f"c{' .before' * k} .{fact}" for k, fact in enumerate([*reversed(facts), f"match .keys{i}"])]
+        arms.append(f"    (λ c. rw ({', '.join([paths[-1], *paths[:-1]])}))")
+    return filled(KIND_CODES_PROOF, calls=calls, arms=arms)
+
+
+def files(t):
+    return {
+        "crates/table/specs/Packed.antt": packed(t),
+        "crates/table/src/places.rt": places(t),
+        "crates/table/src/kinds.rt": kinds(t),
+        "crates/fields/src/codes.rt": codes("field", t.fields),
+        "crates/fields/proofs/codes/field_code/Proof.antt": codes_proof("fields", "field", t.fields),
+        "crates/field_runs/src/codes.rt": codes("run", t.runs),
+        "crates/field_runs/proofs/codes/run_code/Proof.antt": codes_proof("field_runs", "run", t.runs),
+        "crates/rows/src/operations.rt": operations(t),
+        "crates/operations/src/codes.rt": row_codes(t),
+        "crates/operations/proofs/codes/row_code/Proof.antt": row_codes_proof(t),
+        "crates/kinds/src/codes.rt": kind_codes(t),
+        "crates/kinds/proofs/codes/decided/Proof.antt": kind_codes_proof(t),
+    }

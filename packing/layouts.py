@@ -1,0 +1,228 @@
+"""What the claims of crates/table/specs/Claims.antt ask of the packed tables, under which names, and the tables that make the claims hold."""
+import itertools
+import re
+
+from packing.antt import Con, Fault, apply, load, sides, spine, within
+
+CLAIMS = "crates/table/specs/Claims.antt"
+OPERATIONS = "crates/layouts/specs/Operations.antt"
+
+# the columns of a row: the claim's names and the struct's
+LAYOUTS = {"arguments": "arguments", "skips": "skipped", "reply": "reply"}
+ANSWERS = {"argumentsKind": "arguments_kind", "skippedKind": "skipped_kind", "replyKind": "reply_kind"}
+
+
+# ---- what is claimed
+
+
+def rows_wanted():
+    """The right side of `rows-say`."""
+    claims = load(CLAIMS)
+    rows = claims.compute(sides(claims.types["rows-say"])[1], {})
+    numbers = [row["code"] for row in rows]
+    if len(set(numbers)) < len(numbers):
+        raise Fault("two operations have one number", f"{OPERATIONS}: operations")
+    return rows
+
+
+def named_place(side, value):
+    """The name in `groupsAt name`, somewhere in a side of a claim, and the groups that the other side has there."""
+    function, arguments = spine(side)
+    if function == "groupsAt":
+        return arguments[0].split(".")[-1], value
+    parts = zip(arguments, getattr(value, "args", ()))
+    return next((found for side, value in parts if (found := named_place(side, value))), None)
+
+
+def others_wanted():
+    """The layouts outside of the table of operations, by the names that `Others` has for their places."""
+    claims, others = load(CLAIMS), {}
+    for field, _, *words in claims.records["Others"]:
+        where = f"{CLAIMS}: {field}"
+        left, right = within(where, sides, words)
+        found = named_place(right, within(where, claims.compute, left, {}))
+        if not found or others.setdefault(*found) != found[1]:
+            raise Fault("it names no place by `groupsAt`, or one that has another layout", where)
+    return others
+
+
+# ---- names
+
+
+def constant(name):
+    """aNumber becomes A_NUMBER."""
+    return re.sub(r"(?<=[a-z0-9])(?=[A-Z])", "_", name).upper()
+
+
+def once(items):
+    return (Con("once", (items,)),)
+
+
+def layout_names(rows, others):
+    """Each layout of an operation: the name of the definition that it is, or else of the first operation that has it."""
+    names = {(): "NO_GROUPS", once(()): "NO_FIELDS"}
+    taken = {constant(name) for name in others}
+    definitions = load(OPERATIONS)
+    for name, words in definitions.types.items():
+        if words in (["List", "Item"], ["List", "Group"]) and constant(name) not in taken:
+            value = definitions.value(name)
+            names.setdefault(once(value) if words[1] == "Item" else value, constant(name))
+    for row in rows:
+        for column, field in LAYOUTS.items():
+            names.setdefault(row[column], f"{constant(field)}_{row['code']}")
+    return names
+
+
+def kind_name(kind):
+    """A kind that a version or a flag decides is named as it is decided."""
+    if kind.name == "just":
+        return constant(kind.args[0].args[0].name)
+    *version, yes, no = kind.args
+    return f"{f'FROM_{version[0]}' if version else 'IF_THERE'}_{kind_name(yes)}_ELSE_{kind_name(no)}"
+
+
+def number_of(kind):
+    """The number of a constructor of Kind."""
+    number = apply(load(OPERATIONS).defined("kindNumber"), kind)
+    return within(f"{OPERATIONS}: kindNumber", fitting, kind.name, number, FIRST_CODE)
+
+
+def all_kinds():
+    return [Con(name, ()) for name, data in load(OPERATIONS).constructors.items() if data == "Kind"]
+
+
+# document 01's letters, for comments
+LETTERS = {
+    ("num", "dropped"): "n",
+    ("num", "asNumber"): "N",
+    ("num", "asFlag"): "flag",
+    ("str", "passed"): "s",
+    ("str", "checked"): "S without entry",
+    ("str", "kept"): "S",
+    ("set", "passed"): "s*",
+    ("set", "kept"): "S*",
+    ("pairs", "passed"): "p",
+    ("pairs", "kept"): "P",
+    ("framed",): "F",
+    ("maybe",): "flag with n",
+    ("typed",): "typed",
+}
+
+
+def known(table, name):
+    if name not in table:
+        raise Fault(f"the packed form has nothing for {name}: packing/layouts.py and what reads the tables have to learn it")
+    return table[name]
+
+
+def letters_of(items):
+    parts = []
+    for gate, run in itertools.groupby(items, lambda item: (item.name, *item.args[:-1])):
+        whats = [item.args[-1] for item in run]
+        letters = " ".join(known(LETTERS, (what.name, *(arg.name for arg in what.args[:1]))) for what in whats)
+        parts.append(letters if gate[0] == "always" else f"{gate[0]} 1.{gate[1]} {letters}")
+    return ", ".join(parts) or "nothing"
+
+
+def shape_of(groups):
+    words = {"once": "", "opt": "flag, if true ", "many": "count of "}
+    return ", ".join(known(words, group.name) + letters_of(group.args[-1]) for group in groups) or "nothing"
+
+
+# ---- packing: the numbers are those that crates/table/specs/Table.antt takes apart
+
+GATES = {"always": 0, "from": 1, "below": 2}
+WHATS = {"num": 1, "str": 2, "set": 3, "pairs": 4, "framed": 5, "maybe": 6, "typed": 7}
+ROLES = {"passed": 0, "checked": 1, "kept": 2}
+GROUPS = {"once": 1, "opt": 2, "many": 3}
+# the first of them, and how many the record has
+SLOTS = {"dropped": (0, 1), "asNumber": (1, 12), "asFlag": (13, 12), "asCount": (25, 3), "asPresence": (28, 1)}
+# from here on a number is no kind but the code of one that is decided
+FIRST_CODE = 32
+
+
+def fitting(what, number, room):
+    if not 0 <= number < room:
+        raise Fault(f"{what} is {number}, and there is room for those below {room}")
+    return number
+
+
+def joined(*parts):
+    """Numbers side by side in one, the lowest first: what each is, its value, the room that it has."""
+    total, unit = 0, 1
+    for what, number, room in parts:
+        total, unit = total + unit * fitting(what, number, room), unit * room
+    return total
+
+
+def slot_of(slot):
+    first, room = known(SLOTS, slot.name)
+    return first + fitting(slot.name, sum(slot.args), room)
+
+
+def field_code(item):
+    what = item.args[-1]
+    role = sum(ROLES[arg.name] for arg in what.args if arg.name in ROLES)
+    slot = sum(slot_of(arg) for arg in what.args if arg.name in SLOTS)
+    minor = sum(item.args[:-1])
+    return joined(("a kind", known(WHATS, what.name), 16), ("a role", role, 4), ("a slot", slot, 64), ("a gate", known(GATES, item.name), 4), ("a minor version", minor, 256))
+
+
+class Sequences:
+    """Sequences of numbers, each ended by 0. One that stands there already, or as the end of another, is not put there again."""
+
+    def __init__(self):
+        self.numbers, self.begun = [], {}
+
+    def place(self, numbers, text):
+        numbers = [*numbers, 0]
+        for at in range(len(self.numbers)):
+            if self.numbers[at : at + len(numbers)] == numbers:
+                return at
+        self.begun[len(self.numbers)] = text
+        self.numbers += numbers
+        return len(self.numbers) - len(numbers)
+
+
+class Tables:
+    def __init__(self):
+        self.rows, self.others = rows_wanted(), others_wanted()
+        self.names = layout_names(self.rows, self.others)
+        layouts = [row[column] for row in self.rows for column in LAYOUTS] + list(self.others.values())
+        self.fields, self.runs = Sequences(), Sequences()
+        # the longest first, so that others can be the end of one
+        for items in sorted((group.args[-1] for groups in layouts for group in groups), key=len, reverse=True):
+            within(f"the fields {letters_of(items)}", self.place_fields, items)
+        self.places = {groups: within(f"the layout {shape_of(groups)}", self.place_runs, groups) for groups in layouts}
+        kinds = [row[column] for row in self.rows for column in ANSWERS]
+        self.kinds = [kind for kind in dict.fromkeys(kinds) if kind.name != "just"]
+
+    def place_fields(self, items):
+        return self.fields.place(map(field_code, items), letters_of(items))
+
+    def place_runs(self, groups):
+        return self.runs.place(map(self.run_code, groups), shape_of(groups))
+
+    def run_code(self, group):
+        slot = sum(map(slot_of, group.args[:-1]))
+        return joined(("a kind", known(GROUPS, group.name), 4), ("a slot", slot, 64), ("a place of fields", self.place_fields(group.args[-1]), 2**56))
+
+    def kind_code(self, kind):
+        if kind.name != "just":
+            return FIRST_CODE + self.kinds.index(kind)
+        return number_of(kind.args[0].args[0])
+
+    def kind_name(self, kind):
+        # a longer name would not fit on a line
+        return kind_name(kind) if len(kind_name(kind)) <= 68 else f"DECIDED_{self.kind_code(kind)}"
+
+    def kind_users(self, kind):
+        return ", ".join(f"{field.removesuffix('_kind')} of {row['code']}" for row in self.rows for column, field in ANSWERS.items() if row[column] == kind)
+
+    def row_numbers(self, row):
+        return [row["code"], *(self.places[row[column]] for column in LAYOUTS), *(self.kind_code(row[column]) for column in ANSWERS)]
+
+    def row_code(self, row):
+        parts = [("a place of runs or a code of a kind", number, 256) for number in self.row_numbers(row)[1:]]
+        # 1 above all: no row is 0
+        return within(f"operation {row['code']}", joined, *parts, ("a row", 1, 2))
