@@ -15,7 +15,7 @@ use Rattle.table.specs.Table.{fieldAt, runAt, roleOf, slotOf, whatOf, itemOf, u
 use Rattle.table.proofs.Tables.{items-step, groups-step, field-in, run-in}
 use Rattle.items.specs.declared.Layout.{Layout}
 use Rattle.items.specs.declared.Item as I
-use Rattle.items.specs.Items.{versionOf, layoutTree, isEmpty, runTree, restTree, timesOf, onto, itemTree, item, isThere, runItem, afterFields, fieldItem, nextItem, Falls}
+use Rattle.items.specs.Items.{versionOf, layoutTree, isEmpty, beginItem, runTree, restTree, timesOf, onto, itemTree, item, isThere, runItem, afterFields, fieldItem, nextItem, Falls}
 
 pub truth-some : (n : ℕ) → (n ≡ 0 → ⊥) → 1 ≡ truth n
 truth-some zero h = absurd (h refl)
@@ -83,6 +83,11 @@ module _ (i : ℕ) (x : Run) (e : x ≡ runAt i) where
     rw (← e, ne-eqb (x .kind) 0 a, ne-eqb (x .kind) 2 b, ne-eqb (x .kind) 3 c),
     (λ v body. run-group v body a ∙ rw (ne-eqb (x .kind) 2 b, ne-eqb (x .kind) 3 c), λ pc z l. let h = run-in i x e a in omega arith),
   )
+
+  pub once-starts : x .kind ≡ 1 → RunMeets (item 16 0 0 (x .start) 0 (x .start) (i + 1))
+  once-starts k =
+      run-starts (λ u. let r : _≡_ {A = ℕ} 1 0 = sym k ∙ u in omega arith) (λ u. let r : _≡_ {A = ℕ} 1 2 = sym k ∙ u in omega arith)
+      (λ u. let r : _≡_ {A = ℕ} 1 3 = sym k ∙ u in omega arith)
 
 module _ (reps body i : ℕ) where
   abbrev AfterMeets : I.Item → Type 0
@@ -220,10 +225,24 @@ module _ (l : Layout) where
           last-by b w y =
               let v = versionOf l in
               first-run
-              ∙ run-starts (l .first) x e a (λ u. let r : _≡_ {A = ℕ} 1 2 = sym k ∙ u in omega arith) (λ u. let r : _≡_ {A = ℕ} 1 3 = sym k ∙ u in omega arith) .1 .0 v fieldCount
+              ∙ once-starts (l .first) x e k .1 .0 v fieldCount
               ∙ quiet-item v (item 16 0 0 (x .start) 0 (x .start) (l .first + 1)) refl
               ∙ field-none v (x .start) 0 (x .start) (l .first + 1) f g h
               ∙ run-ends (l .first + 1) z q (eqb-true (z .kind) 0 (w ∙ y)) .1 .0 v (x .start) ∙ end-item v _ refl
 
           pub empty-last : Empties (eqb (z .kind) 0)
           empty-last = (rw (← e, ne-eqb (x .kind) 0 a, eq-eqb (x .kind) 1 k, ← g, eq-eqb (f .kind) 0 h, ← q), λ y. last-by (eqb (z .kind) 0) refl y)
+
+-- ---- where a layout begins
+module _ (l : Layout) (x : Run) (e : x ≡ runAt (l .first)) where
+  abbrev Begins : I.Item → Type 0
+  Begins r = (r ≡ beginItem (l .first)) × (restTree (versionOf l) (r .pc) (r .reps) (r .body) (r .run) tt ≡ layoutTree l)
+
+  pub begin-inside : x .kind ≡ 1 → Begins (item 16 0 0 (x .start) 0 (x .start) (l .first + 1))
+  begin-inside k = (
+    rw (← e, eq-eqb (x .kind) 1 k),
+    sym (first-run l ∙ once-starts (l .first) x e k .1 .0 (versionOf l) fieldCount ∙ quiet-item (versionOf l) (item 16 0 0 (x .start) 0 (x .start) (l .first + 1)) refl),
+  )
+
+  pub begin-before : (x .kind ≡ 1 → ⊥) → Begins (item 16 0 0 fieldCount 0 fieldCount (l .first))
+  begin-before h = (rw (← e, ne-eqb (x .kind) 1 h), layout-start l)

@@ -63,6 +63,9 @@ item kind role slot pc reps body run = record { kind = kind; role = role; slot =
 abbrev pub isThere : Version → (gate minor : ℕ) → Bool
 isThere v gate minor = pick (eqb gate 0) true (pick (eqb gate 1) (atLeast v (version 1 minor)) (not (atLeast v (version 1 minor))))
 
+abbrev pub beginItem : (run : ℕ) → Item
+beginItem i = pick (eqb (runAt i .kind) 1) (item 16 0 0 (runAt i .start) 0 (runAt i .start) (i + 1)) (item 16 0 0 fieldCount 0 fieldCount i)
+
 abbrev pub runItem : (run : ℕ) → Run → Item
 runItem i x =
     pick (eqb (x .kind) 0) (item 0 0 0 fieldCount 0 fieldCount i)

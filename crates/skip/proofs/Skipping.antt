@@ -9,20 +9,19 @@ use Rattle.layouts.specs.Shape.{Tree}
 use Rattle.layouts.specs.Pieces.{run, skipOf}
 use Rattle.strings.specs.Strings.{bare}
 use Rattle.strings.proofs.Rows.{skip-bare}
-use Rattle.table.specs.Packed.{fieldCount}
 use Rattle.items.specs.declared.Layout.{Layout}
 use Rattle.items.specs.declared.Item.{Item}
 use Rattle.items.specs.Items.{versionOf, layoutTree, piecesOf, restTree}
-use Rattle.items.proofs.Trees.{layout-start}
 use Rattle.passing.specs.declared.Stop.{Stop}
 use Rattle.passing.specs.declared.Stop.the-variants as S
 use Rattle.passing.specs.Passing.{stopTo, StopOn}
 
-module _ (s : List ℕ) (l : Layout) (at : ℕ) (r : Stop) (h : bare false (run (restTree (versionOf l) fieldCount 0 fieldCount (l .first) tt) s at) ≡ stopTo false s (versionOf l) r) where
+module _ (s : List ℕ) (l : Layout) (at : ℕ) (f : Item) (b : restTree (versionOf l) (f .pc) (f .reps) (f .body) (f .run) tt ≡ layoutTree l) (r : Stop)
+    (h : bare false (run (restTree (versionOf l) (f .pc) (f .reps) (f .body) (f .run) tt) s at) ≡ stopTo false s (versionOf l) r) where
   stopped : (y : Stop) → r ≡ y → skipOf (stopTo false s (versionOf l) y) ≡ skipOf (piecesOf l s at)
   stopped y q =
       ap (λ (x : Stop). skipOf (stopTo false s (versionOf l) x)) (sym q) ∙ ap skipOf (sym h)
-      ∙ skip-bare false (run (restTree (versionOf l) fieldCount 0 fieldCount (l .first) tt) s at) ∙ ap (λ (t : Tree). skipOf (run t s at)) (layout-start l)
+      ∙ skip-bare false (run (restTree (versionOf l) (f .pc) (f .reps) (f .body) (f .run) tt) s at) ∙ ap (λ (t : Tree). skipOf (run t s at)) b
 
   pub skip-end : (e : ℕ) → r ≡ S.End e → ok e ≡ skipOf (piecesOf l s at)
   unfolding skipOf

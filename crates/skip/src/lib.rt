@@ -15,16 +15,8 @@ pub enum Skipped {
 pub fn skip(s: &[u8], from: usize, layout: Layout) -> Skipped
     ensures { λ r. ⌜ skipped r ≡ skipOf (piecesOf layout (now (s .entry)) from) ⌝ }
 {
-    let k = passing::pass(
-        s,
-        from,
-        layout,
-        table::FIELD_COUNT,
-        0,
-        table::FIELD_COUNT,
-        layout.first,
-        false,
-    );
+    let f = items::begin(layout);
+    let k = passing::pass(s, from, layout, f.pc, f.reps, f.body, f.run, false);
     match k {
         Stop::End(at) => Skipped::Past(at),
         Stop::Stays { at, item: _ } => Skipped::Past(at),
