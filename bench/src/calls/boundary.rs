@@ -2,36 +2,33 @@
 use super::{Call, Caller, Calls, Room, What};
 use lintelow::Version;
 
+/// Readers by operation and version.
+macro_rules! of_an_operation {
+    ($($function:ident)*) => {
+        extern "C" {
+            $(fn $function(
+                op: u64,
+                major: u16,
+                minor: u8,
+                s: *const u8,
+                s_len: usize,
+                entries: *mut u8,
+                entries_len: usize,
+                payload: *mut u8,
+                payload_len: usize,
+                block: *mut u8,
+                block_len: usize,
+            ) -> u64;)*
+        }
+    };
+}
+
+of_an_operation! { lintelow_read_op_args lintelow_read_daemon_result }
+
 extern "C" {
-    fn lintelow_read_op_args(
-        op: u64,
-        major: u16,
-        minor: u8,
-        s: *const u8,
-        s_len: usize,
-        entries: *mut u8,
-        entries_len: usize,
-        payload: *mut u8,
-        payload_len: usize,
-        block: *mut u8,
-        block_len: usize,
-    ) -> u64;
     fn lintelow_skip_op_args(op: u64, major: u16, minor: u8, s: *const u8, s_len: usize, block: *mut u8, block_len: usize) -> u64;
     fn lintelow_read_stderr_with_error(s: *const u8, s_len: usize, entries: *mut u8, entries_len: usize, block: *mut u8, block_len: usize) -> u64;
     fn lintelow_read_stderr_loop(s: *const u8, s_len: usize, block: *mut u8, block_len: usize) -> u64;
-    fn lintelow_read_daemon_result(
-        op: u64,
-        major: u16,
-        minor: u8,
-        s: *const u8,
-        s_len: usize,
-        entries: *mut u8,
-        entries_len: usize,
-        payload: *mut u8,
-        payload_len: usize,
-        block: *mut u8,
-        block_len: usize,
-    ) -> u64;
     fn lintelow_skip_daemon_result(op: u64, major: u16, minor: u8, s: *const u8, s_len: usize, block: *mut u8, block_len: usize) -> u64;
 }
 
