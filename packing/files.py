@@ -12,20 +12,13 @@ use mathlib.Core.List.{List, [], _∷_}
 use Rattle.table.specs.declared.Row.{Row}
 use Rattle.table.specs.Numbered.{Numbered, just, byVersion, byFlag}
 
-abbrev pub fieldCount : ℕ
-fieldCount = $field_count
+abbrev pub size : ℕ
+size = $size
 
-abbrev pub runCount : ℕ
-runCount = $run_count
-
-abbrev pub fieldList : List ℕ
-fieldList =
-$fields
-    []
-
-abbrev pub runList : List ℕ
-runList =
-$runs
+-- the runs of the layouts, then their fields
+abbrev pub packedList : List ℕ
+packedList =
+$packed
     []
 
 -- number; runs of arguments, skipped arguments, reply; the codes of their kinds
@@ -49,21 +42,18 @@ kindList =
 $kinds
     []
 
--- the same under names that stay shut
-unfoldable pub fieldTable : List ℕ
-fieldTable = fieldList
-
-unfoldable pub runTable : List ℕ
-runTable = runList
+-- the list under a name that stays shut
+unfoldable pub packedTable : List ℕ
+packedTable = packedList
 """
 
-CODES = """// $made: the packed ${what}s. A match becomes one load.
+CODES = """// $made: the runs of the layouts and then their fields, packed. A match becomes one load.
 ghost use mathlib.Core.Path.{_≡_};
 ghost use lib.ListN.{getD};
-ghost use Rattle.table.specs.Packed.{${what}List};
+ghost use Rattle.table.specs.Packed.{packedList};
 
-pub fn ${what}_code(i: usize) -> u64
-    ensures { λ r. ⌜ r ≡ getD ${what}List i 0 ⌝ }
+pub fn code(i: usize) -> u64
+    ensures { λ r. ⌜ r ≡ getD packedList i 0 ⌝ }
 {
     match i {
 $arms
@@ -72,24 +62,24 @@ $arms
 }
 """
 
-CODES_PROOF = """-- $made: an arm of `${what}_code` is an entry of the list, and the last arm lies past its end.
-use Rattle.$crate.proofs.codes.${what}_code.Statement.{statement}
-use Rattle.$crate.proofs.codes.${what}_code.Tie as tie
+CODES_PROOF = """-- $made: an arm of `code` is an entry of the list, and the last arm lies past its end.
+use Rattle.packed.proofs.codes.code.Statement.{statement}
+use Rattle.packed.proofs.codes.code.Tie as tie
 use Rattle.table.proofs.Tables.{entry, missed, getD-past}
-use Rattle.table.specs.Packed.{${what}Count, ${what}List}
+use Rattle.table.specs.Packed.{size, packedList}
 
-pub ${what}-code-spec : {M : Type 1} → statement M
-${what}-code-spec =
+pub code-spec : {M : Type 1} → statement M
+code-spec =
     tie.close
     (tie.spec
 $arms
-    (λ c. let i = c .before .args .i in getD-past ${what}List i 0 (missed ${what}Count i (c .match .rest))))
+    (λ c. let i = c .before .args .i in getD-past packedList i 0 (missed size i (c .match .rest))))
 """
 
 PLACES = """// $made: where the runs of each layout begin.
 
-// How many fields there are; this is also the place of an empty run of fields.
-pub const FIELD_COUNT: usize = $field_count;
+// How many numbers there are. Past its end the table reads as 0, so this is also a place without fields.
+pub const SIZE: usize = $size;
 
 // ---- the layouts outside of the table of operations
 
@@ -165,15 +155,14 @@ $arms
 """
 
 KIND_CODES = """// $made: the kind that a code stands for. Only a code that a version or a flag decides is not its own kind.
-ghost use Rattle.layouts.specs.Primitive.{version};
-ghost use Rattle.table.specs.Table.{kindNumbered};
+ghost use Rattle.table.specs.Table.{versionIn, kindNumbered};
 ghost use mathlib.Core.Path.{_≡_};
 use crate::either;
 use crate::since;
 use table::kinds as kind;
 
-pub fn decided(code: u8, major: u16, minor: u8, present: bool) -> u8
-    ensures { λ r. ⌜ r ≡ kindNumbered (version major minor) present code ⌝ }
+pub fn decided(code: u8, spoken: u64, present: bool) -> u8
+    ensures { λ r. ⌜ r ≡ kindNumbered (versionIn spoken) present code ⌝ }
 {
     match code {
 $arms
@@ -205,7 +194,7 @@ def filled(text, **parts):
     return string.Template(text).substitute(parts, made=MADE)
 
 
-# ---- fields and runs
+# ---- runs and fields
 
 
 def listed(sequences):
@@ -219,10 +208,8 @@ def listed(sequences):
 def packed(t):
     return filled(
         PACKED,
-        field_count=str(len(t.fields.numbers)),
-        run_count=str(len(t.runs.numbers)),
-        fields=listed(t.fields),
-        runs=listed(t.runs),
+        size=str(len(t.packed.numbers)),
+        packed=listed(t.packed),
         rows=(f"    op {' '.join(map(str, t.row_numbers(row)))} ∷" for row in t.rows),
         others="\n\n".join(f"abbrev pub {name} : ℕ\n{name} = {t.places[groups]}" for name, groups in t.others.items()),
         first_code=str(FIRST_CODE),
@@ -230,17 +217,16 @@ def packed(t):
     )
 
 
-def codes(what, sequences):
+def codes(sequences):
     arms = []
     for at, number in enumerate(sequences.numbers):
         arms += [f"        // {sequences.begun[at]}"] if at in sequences.begun else []
         arms.append(f"        {at} => {number},")
-    return filled(CODES, what=what, arms=arms)
+    return filled(CODES, arms=arms)
 
 
-def codes_proof(crate, what, sequences):
-    arms = (f"    (λ c. entry {what}List (c .match .keys{i}))" for i, _ in enumerate(sequences.numbers, 1))
-    return filled(CODES_PROOF, crate=crate, what=what, arms=arms)
+def codes_proof(sequences):
+    return filled(CODES_PROOF, arms=(f"    (λ c. entry packedList (c .match .keys{i}))" for i, _ in enumerate(sequences.numbers, 1)))
 
 
 # ---- constants and rows
@@ -254,7 +240,7 @@ def constants(of, named):
 def places(t):
     others = ((constant(name), t.places[groups], shape_of(groups)) for name, groups in t.others.items())
     layouts = ((name, t.places[groups], shape_of(groups)) for groups, name in t.names.items() if groups in t.places)
-    return filled(PLACES, field_count=str(len(t.fields.numbers)), others=constants("usize", others), layouts=constants("usize", layouts))
+    return filled(PLACES, size=str(len(t.packed.numbers)), others=constants("u8", others), layouts=constants("u8", layouts))
 
 
 def kinds(t):
@@ -287,7 +273,7 @@ def row_codes_proof(t):
 def parted(kind):
     """The function that decides a kind, what it is asked with, and the two kinds that it chooses from."""
     *version, yes, no = kind.args
-    return ("since", ["major", "minor", str(version[0])], yes, no) if version else ("either", ["present"], yes, no)
+    return ("since", ["spoken", str(version[0])], yes, no) if version else ("either", ["present"], yes, no)
 
 
 def numbered(kind):
@@ -345,10 +331,8 @@ def files(t):
         "crates/table/specs/Packed.antt": packed(t),
         "crates/table/src/places.rt": places(t),
         "crates/table/src/kinds.rt": kinds(t),
-        "crates/fields/src/codes.rt": codes("field", t.fields),
-        "crates/fields/proofs/codes/field_code/Proof.antt": codes_proof("fields", "field", t.fields),
-        "crates/field_runs/src/codes.rt": codes("run", t.runs),
-        "crates/field_runs/proofs/codes/run_code/Proof.antt": codes_proof("field_runs", "run", t.runs),
+        "crates/packed/src/codes.rt": codes(t.packed),
+        "crates/packed/proofs/codes/code/Proof.antt": codes_proof(t.packed),
         "crates/rows/src/operations.rt": operations(t),
         "crates/operations/src/codes.rt": row_codes(t),
         "crates/operations/proofs/codes/row_code/Proof.antt": row_codes_proof(t),

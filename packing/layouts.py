@@ -184,6 +184,10 @@ class Sequences:
         return len(self.numbers) - len(numbers)
 
 
+# what a run is multiplied by to make room for its kind and slot
+RUN_UNIT = 4 * 64
+
+
 class Tables:
     def __init__(self):
         self.rows, self.others = rows_wanted(), others_wanted()
@@ -194,8 +198,16 @@ class Tables:
         for items in sorted((group.args[-1] for groups in layouts for group in groups), key=len, reverse=True):
             within(f"the fields {letters_of(items)}", self.place_fields, items)
         self.places = {groups: within(f"the layout {shape_of(groups)}", self.place_runs, groups) for groups in layouts}
+        self.packed = self.joined_tables()
         kinds = [row[column] for row in self.rows for column in ANSWERS]
         self.kinds = [kind for kind in dict.fromkeys(kinds) if kind.name != "just"]
+
+    def joined_tables(self):
+        """The runs and, behind them, the fields. Only now it is known where these begin."""
+        behind, joined = len(self.runs.numbers), Sequences()
+        joined.numbers = [code and code + RUN_UNIT * behind for code in self.runs.numbers] + self.fields.numbers
+        joined.begun = {**self.runs.begun, **{behind + at: text for at, text in self.fields.begun.items()}}
+        return joined
 
     def place_fields(self, items):
         return self.fields.place(map(field_code, items), letters_of(items))
@@ -205,7 +217,7 @@ class Tables:
 
     def run_code(self, group):
         slot = sum(map(slot_of, group.args[:-1]))
-        return joined(("a kind", known(GROUPS, group.name), 4), ("a slot", slot, 64), ("a place of fields", self.place_fields(group.args[-1]), 2**56))
+        return joined(("a kind", known(GROUPS, group.name), 4), ("a slot", slot, 64), ("a place of fields", self.place_fields(group.args[-1]), 2**55))
 
     def kind_code(self, kind):
         if kind.name != "just":

@@ -43,7 +43,7 @@ pub fn number(r: Read) -> Answer
 {
     match r {
         Read::Value { value, next } => fine(0, next.at, value, 0, 0, 0, 0),
-        Read::Refused { which, place } => judge::refused_answer(which, place),
+        Read::Refused(x) => judge::refused_answer(x),
     }
 }
 
@@ -54,7 +54,7 @@ pub fn string(r: Spanned) -> Answer
         Spanned::Contents { start, len, next } => {
             fine(0, next.at, 0, start as u64, len as u64, 1, 0)
         }
-        Spanned::Refused { which, place } => judge::refused_answer(which, place),
+        Spanned::Refused(x) => judge::refused_answer(x),
     }
 }
 
@@ -64,7 +64,7 @@ pub fn total(r: Read) -> Answer
 {
     match r {
         Read::Value { value, next } => fine(0, next.at, 0, 0, 0, 0, value as usize),
-        Read::Refused { which, place } => judge::refused_answer(which, place),
+        Read::Refused(x) => judge::refused_answer(x),
     }
 }
 
@@ -73,7 +73,7 @@ pub fn passed(r: Skipped) -> Answer
 {
     match r {
         Skipped::Past(next) => fine(0, next.at, 0, 0, 0, 0, 0),
-        Skipped::Refused { which, place } => judge::refused_answer(which, place),
+        Skipped::Refused(x) => judge::refused_answer(x),
     }
 }
 
@@ -91,7 +91,7 @@ pub fn write(r: Written) -> Answer
 {
     match r {
         Written::Length(n) => fine(0, n, 0, 0, 0, 0, n),
-        Written::Refused { which, place } => judge::refused_answer(which, place),
+        Written::Refused(x) => judge::refused_answer(x),
     }
 }
 
@@ -117,7 +117,7 @@ pub fn framed(f: Framed) -> Answer
     match f {
         Framed::Yes => yes_no(true),
         Framed::No => yes_no(false),
-        Framed::Refused { which, place } => judge::refused_answer(which, place),
+        Framed::Refused(x) => judge::refused_answer(x),
     }
 }
 

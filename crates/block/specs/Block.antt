@@ -11,7 +11,7 @@ use Rattle.output.specs.Numbers.{bytesOf}
 
 abbrev pub refusalOf : Outcome → List ℕ
 refusalOf Fine = 0 ∷ 0 ∷ 0 ∷ []
-refusalOf (Refused which place stream) = which ∷ place ∷ stream ∷ []
+refusalOf (Refused r) = r .which ∷ r .place ∷ r .stream ∷ []
 
 -- number, place, stream; kind, end, end2, entries, payload; twelve numbers; three counts; two that are kept for later
 abbrev pub numbersOf : Answer → List ℕ

@@ -15,11 +15,7 @@ fn refusal(o: Outcome) -> [u64; 3]
 {
     match o {
         Outcome::Fine => [0, 0, 0],
-        Outcome::Refused {
-            which,
-            place,
-            stream,
-        } => [which, place as u64, stream],
+        Outcome::Refused(r) => [r.which, r.place as u64, r.stream],
     }
 }
 

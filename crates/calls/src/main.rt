@@ -62,11 +62,7 @@ fn answered(a: Answer) -> Seen {
     let o = a.outcome;
     let found = a.found;
     match o {
-        Outcome::Refused {
-            which,
-            place,
-            stream: _,
-        } => refused(which, place),
+        Outcome::Refused(r) => refused(r.which, r.place),
         Outcome::Fine => Seen {
             which: 0,
             place: 0,
@@ -81,11 +77,7 @@ fn answered(a: Answer) -> Seen {
 fn skipped_arguments(a: Arguments) -> Seen {
     let o = a.outcome;
     match o {
-        Outcome::Refused {
-            which,
-            place,
-            stream: _,
-        } => refused(which, place),
+        Outcome::Refused(r) => refused(r.which, r.place),
         Outcome::Fine => Seen {
             which: 0,
             place: 0,
@@ -99,7 +91,7 @@ fn skipped_arguments(a: Arguments) -> Seen {
 
 fn skipped_reply(k: Skipped) -> Seen {
     match k {
-        Skipped::Refused { which, place } => refused(which, place),
+        Skipped::Refused(r) => refused(r.which, r.place),
         Skipped::Past(ends) => Seen {
             which: 0,
             place: 0,
@@ -227,13 +219,9 @@ fn told(a: Answer, lent: &[u64]) {
     let o = a.outcome;
     let found = a.found;
     match o {
-        Outcome::Refused {
-            which,
-            place,
-            stream,
-        } => {
+        Outcome::Refused(r) => {
             say(b"no");
-            numbers(&[which, place as u64, stream]);
+            numbers(&[r.which, r.place as u64, r.stream]);
         }
         Outcome::Fine => {
             say(b"ends");

@@ -6,6 +6,8 @@ use native.Mathlib.Omega.{arith}
 use borrow.Author.Tests.{le-leb}
 use lib.ListN.{length, getD, take, drop}
 use Rattle.layouts.specs.Primitive.{numberAt, Result, ok, refused, onward}
+use Rattle.layouts.specs.declared.Refusal.{Refusal}
+use Rattle.layouts.specs.Refusal.{plain, refusedBy}
 use Rattle.layouts.specs.Writers.{slotsOf, entryStart, entryLength, viewOf, partOf}
 use Rattle.layouts.specs.Pieces.{Num, value, short, numOf}
 use Rattle.layouts.specs.Calls.{peekNumber}
@@ -55,8 +57,8 @@ module _ (b : List ℕ) (at : ℕ) (h : at + 8 ≤ length b) (r : Number) (e : n
 
 -- an entry, by the tests that the code makes
 module _ (bytes b : List ℕ) (i : ℕ) where
-  pub fault-none : length b / 16 ≤ i → refused 11 i 0 ≡ faultOf (viewOf bytes (entriesIn b) i)
-  fault-none h = let n = slots b in sym (ap faultOf (no-such bytes (entriesIn b) i (omega arith)))
+  pub fault-none : length b / 16 ≤ i → (r : Refusal) → r ≡ plain 11 i → refusedBy r ≡ faultOf (viewOf bytes (entriesIn b) i)
+  fault-none h r p = let n = slots b in rw p (sym (ap faultOf (no-such bytes (entriesIn b) i (omega arith))))
 
   module _ (h : i < length b / 16) (start len : ℕ) (e : start ≡ numberAt b (16 * i)) (g : len ≡ numberAt b (16 * i + 8)) where
     starts : start ≡ entryStart (entriesIn b) i
@@ -65,12 +67,12 @@ module _ (bytes b : List ℕ) (i : ℕ) where
     lengths : len ≡ entryLength (entriesIn b) i
     lengths = g ∙ sym (length-at b i h)
 
-    pub fault-bad : length bytes < start + len → refused 12 i 0 ≡ faultOf (viewOf bytes (entriesIn b) i)
-    fault-bad l =
+    pub fault-bad : length bytes < start + len → (r : Refusal) → r ≡ plain 12 i → refusedBy r ≡ faultOf (viewOf bytes (entriesIn b) i)
+    fault-bad l r p =
         let n = slots b in
         let x = starts in
         let y = lengths in
-        sym (ap faultOf (bad bytes (entriesIn b) i (omega arith) (omega arith)))
+        rw p (sym (ap faultOf (bad bytes (entriesIn b) i (omega arith) (omega arith))))
 
     pub fault-good : start + len ≤ length bytes → ok tt ≡ faultOf (viewOf bytes (entriesIn b) i)
     fault-good l =
@@ -104,11 +106,11 @@ module _ (bytes b : List ℕ) (i : ℕ) where
   pub slot-there : Inside bytes (entriesIn b) i → i < length b / 16
   slot-there w = let n = slots b in omega (arith, w .slot)
 
-  pub entry-refused : (which place : ℕ) → refused which place 0 ≡ faultOf (viewOf bytes (entriesIn b) i) → (a : Answer) → a ≡ answerAs (refused which place 0)
+  pub entry-refused : (r : Refusal) → refusedBy r ≡ faultOf (viewOf bytes (entriesIn b) i) → (a : Answer) → a ≡ answerAs (refusedBy r)
       → a ≡ answerAs (entryRead bytes (entriesIn b) i)
-  entry-refused which place f a q = q ∙ go (viewOf bytes (entriesIn b) i) f
+  entry-refused r f a q = q ∙ go (viewOf bytes (entriesIn b) i) f
     where
-      go : (v : Result (List ℕ)) → refused which place 0 ≡ faultOf v
-          → answerAs (refused which place 0) ≡ answerAs (onward v (λ c. ok (answer 0 0 (numbered 0 (entryStart (entriesIn b) i) (entryLength (entriesIn b) i) 1 0))))
+      go : (v : Result (List ℕ)) → refusedBy r ≡ faultOf v
+          → answerAs (refusedBy r) ≡ answerAs (onward v (λ c. ok (answer 0 0 (numbered 0 (entryStart (entriesIn b) i) (entryLength (entriesIn b) i) 1 0))))
       go (ok c) f = let n : _≡_ {A = ℕ} 0 1 = cc in absurd (omega arith)
       go (refused x y z) f = cc

@@ -26,25 +26,16 @@ pub fn entry_fault(bytes: &[u8], entries: &[u8], i: usize) -> Fault
     ensures { λ r. ⌜ meaning r ≡ faultOf (viewOf (now (bytes .entry)) (entriesIn (now (entries .entry))) i) ⌝ }
 {
     if entries.len() / 16 <= i {
-        return Fault::Refused {
-            which: layouts::NO_SUCH_ENTRY,
-            place: i,
-        };
+        return Fault::Refused(layouts::refuse(layouts::NO_SUCH_ENTRY, i));
     }
     let start = word(entries, 16 * i);
     let len = word(entries, 16 * i + 8);
     let n = bytes.len() as u64;
     if n < start {
-        return Fault::Refused {
-            which: layouts::BAD_ENTRY,
-            place: i,
-        };
+        return Fault::Refused(layouts::refuse(layouts::BAD_ENTRY, i));
     }
     if n - start < len {
-        return Fault::Refused {
-            which: layouts::BAD_ENTRY,
-            place: i,
-        };
+        return Fault::Refused(layouts::refuse(layouts::BAD_ENTRY, i));
     }
     Fault::None
 }
@@ -61,7 +52,7 @@ pub fn entry<'a, 'b>(bytes: &'a [u8], entries: &'b [u8], i: usize) -> &'a [u8]
             let e = (start + len) as usize;
             &bytes[a..e]
         }
-        Fault::Refused { which: _, place: _ } => &bytes[..0],
+        Fault::Refused(_) => &bytes[..0],
     }
 }
 
@@ -75,6 +66,6 @@ pub fn find_entry(bytes: &[u8], entries: &[u8], i: usize) -> Answer
             let len = word(entries, 16 * i + 8);
             answers::entry(start, len)
         }
-        Fault::Refused { which, place } => judge::refused_answer(which, place),
+        Fault::Refused(r) => judge::refused_answer(r),
     }
 }

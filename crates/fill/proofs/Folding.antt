@@ -9,6 +9,7 @@ use native.Mathlib.Omega.{arith}
 use native.Mathlib.Decide.{decLt}
 use borrow.Author.Tests.{ne-eqb}
 use Rattle.layouts.specs.Primitive.{Version}
+use Rattle.layouts.specs.declared.Refusal.{Refusal}
 use Rattle.layouts.specs.Shape.{Slot, Role, passed, checked, kept, Tree, ask, say, frames, strings, units, stop, field, What}
 use Rattle.layouts.specs.Pieces.{Pieces, number, text, half, chunk, end, fault, run}
 use Rattle.layouts.specs.Judge.{entriesOf, payloadOf}
@@ -18,13 +19,11 @@ use Rattle.number.specs.declared.Number.the-variants.{Value, Short}
 use Rattle.output.specs.Numbers.{bytesOf}
 use Rattle.pieces.specs.Pieces.{numRead}
 use Rattle.pieces.proofs.Nodes.{ask-cut, ask-found}
-use Rattle.table.specs.Packed.{fieldCount}
 use Rattle.table.specs.Table.{roleOf, slotOf, whatOf}
 use Rattle.strings.specs.Strings.{row, stays, textIf, chunkIf, bare}
-use Rattle.items.specs.declared.Layout.{Layout}
 use Rattle.items.specs.declared.Item.{Item}
 use Rattle.items.specs.Items.{versionOf, layoutTree, piecesOf, restTree, onto, itemTree, slotFor, afterNumber, rank, Falls}
-use Rattle.items.proofs.Trees.{layout-start, field-item}
+use Rattle.items.proofs.Trees.{field-item}
 use Rattle.items.proofs.Fields.{is-text, is-framed, is-number, after-set, after-pairs}
 use Rattle.passing.specs.declared.Stop.{Stop}
 use Rattle.passing.specs.declared.Stop.the-variants as S
@@ -35,8 +34,9 @@ use Rattle.fill.specs.declared.Copied.{Copied}
 use Rattle.fill.specs.declared.Copied.the-variants as C
 use Rattle.fill.specs.declared.Filled.{Filled}
 use Rattle.fill.specs.declared.Filled.the-variants as F
-use Rattle.fill.specs.Fill.{Put, Filling, Rooms, Fills, rooms, nothing, rowRooms, afterRow, RowFrom, copiedRooms, afterCopied, CopiedFrom, filledRooms, afterFilled, FilledFrom}
-use Rattle.fill.proofs.Room.{filling-end}
+use Rattle.rooms.specs.Rooms.{Put, Filling}
+use Rattle.fill.specs.Fill.{Rooms, Fills, rooms, nothing, rowRooms, afterRow, RowFrom, copiedRooms, afterCopied, CopiedFrom, filledRooms, afterFilled, FilledFrom}
+use Rattle.rooms.proofs.Laws.{filling-end}
 use Rattle.fill.proofs.Pieces.{fills-start, fills-on, fills-as, fills-same, fills-front, fault-fills}
 
 -- ---- a kept string by its role
@@ -169,8 +169,9 @@ payload-bare s (fault which place) = refl
 abbrev pub toCome : List ℕ → Version → (at pc reps body i : ℕ) → Pieces
 toCome s v at pc reps body i = run (restTree v pc reps body i tt) s at
 
-pub fold-start : (s : List ℕ) (l : Layout) (at : ℕ) (x : Rooms) → Fills s x (piecesOf l s at) x (toCome s (versionOf l) at fieldCount 0 fieldCount (l .first))
-fold-start s l at x = fills-start s x _ _ (ap (λ (t : Tree). run t s at) (layout-start l))
+pub fold-start : (s : List ℕ) (l at : ℕ) (x : Rooms) (f : Item) → restTree (versionOf l) (f .pc) (f .reps) (f .body) (f .run) tt ≡ layoutTree l
+    → Fills s x (piecesOf l s at) x (toCome s (versionOf l) at (f .pc) (f .reps) (f .body) (f .run))
+fold-start s l at x f e = fills-start s x _ _ (ap (λ (t : Tree). run t s at) e)
 
 abbrev pub Full : List ℕ → (x₀ : Rooms) → Pieces → Rooms → Type 0
 Full s x₀ p x =
@@ -203,8 +204,8 @@ module _ (s : List ℕ) (x₀ : Rooms) (p₀ : Pieces) (x : Rooms) (v : Version)
   unfolding entriesOf payloadOf
   fold-end e q = full s x₀ p₀ x (end e) (stopped (S.End e) q) refl refl
 
-  pub fold-refused : (which place : ℕ) → k ≡ S.Refused which place → Full s x₀ p₀ x
-  fold-refused which place q = fold-over s x₀ p₀ x (fault-fills s x₀ p₀ x _ (stopped (S.Refused which place) q) which place refl)
+  pub fold-refused : (y : Refusal) → k ≡ S.Refused y → Full s x₀ p₀ x
+  fold-refused y q = fold-over s x₀ p₀ x (fault-fills s x₀ p₀ x _ (stopped (S.Refused y) q) (y .which) (y .place) refl)
 
   module _ (fuel : ℕ) (o : StopOn true s fuel k) (a : ℕ) (f : Item) (q : k ≡ S.Stays a f) where
     on : StopOn true s fuel (S.Stays a f)

@@ -1,29 +1,33 @@
 -- The pieces one by one: what is written and what is to come is what the whole reports.
-use Prim.Native.Nat.{ℕ, _+_, _≤_, _<_}
+use Prim.Native.Nat.{ℕ, _+_, _-_, _≤_}
 use mathlib.Core.Path.{_≡_, refl, sym, _∙_, ap, subst}
-use mathlib.Core.List.{List, [], _∷_, _++_}
-use mathlib.Core.Bool.{Bool, true, false}
+use mathlib.Core.List.{List, [], _∷_}
 use lib.ListN.{length, take, drop}
 use native.Mathlib.Omega.{arith}
 use Rattle.layouts.specs.Primitive.{numberAt}
-use Rattle.layouts.specs.Shape.{Role, passed, checked, kept, Tree, ask, say, frames}
-use Rattle.layouts.specs.Pieces.{Pieces, number, text, half, chunk, end, fault, textOf, chunkOf, afterText, run}
-use Rattle.layouts.specs.Judge.{entry, entriesOf, payloadOf}
+use Rattle.layouts.specs.declared.Refusal.{Refusal}
+use Rattle.layouts.specs.Shape.{Role, kept, Tree, frames}
+use Rattle.layouts.specs.Pieces.{Pieces, text, half, chunk, fault, textOf, chunkOf, afterText, run}
+use Rattle.layouts.specs.Judge.{entriesOf, payloadOf}
 use Rattle.output.specs.Numbers.{bytesOf}
 use Rattle.output.proofs.Numbers.{bytes-join}
 use Rattle.pieces.specs.declared.Text as T
 use Rattle.pieces.specs.declared.Text.the-variants.{Whole, Half, Bad}
 use Rattle.pieces.specs.declared.Chunk as C
 use Rattle.pieces.specs.declared.Chunk.the-variants.{Part, Last, Wrong}
-use Rattle.pieces.specs.Pieces.{textRead, chunkRead}
-use Rattle.pieces.proofs.Nodes.{say-as, whole-found, framesBy, frames-as, last-found, part-found}
+use Rattle.pieces.specs.Pieces.{textFound, chunkFound}
+use Rattle.pieces.proofs.Nodes.{say-as, whole-found, frames-as, last-found, part-found}
 use Rattle.strings.specs.declared.More.{More}
 use Rattle.strings.specs.declared.More.the-variants as M
-use Rattle.strings.specs.Strings.{row, rowAfter, stays, textIf, bare}
-use Rattle.fill.specs.declared.Row.the-variants as R
-use Rattle.fill.specs.declared.Copied.the-variants as K
-use Rattle.fill.specs.Fill.{Put, Filling, Rooms, Fills, rooms, nothing}
-use Rattle.fill.proofs.Room.{filling-start, filling-as, filling-put, filling-on}
+use Rattle.strings.specs.Strings.{row, rowAfter, afterNext}
+use Rattle.strings.proofs.Rows.{row-next}
+use Rattle.rooms.specs.Rooms.{Put}
+use Rattle.fill.specs.Fill.{Rooms, Fills, rooms, nothing}
+use Rattle.rooms.proofs.Laws.{filling-start, filling-as, filling-put, filling-on}
+
+-- a part of the stream, put as bytes
+pub chunk-put : (s : List ℕ) (start len : ℕ) (l : List ℕ) (at : ℕ) (o : List ℕ) (k : ℕ) → Put l at (take (start + len - start) (drop start s)) o k → Put l at (take len (drop start s)) o k
+chunk-put s start len l at o k p = let e : start + len - start ≡ len = omega arith in subst (λ (n : ℕ). Put l at (take n (drop start s)) o k) e p
 
 -- ---- from one state of the rooms to the next
 module _ (s : List ℕ) (x₀ : Rooms) (p₀ : Pieces) where
@@ -108,20 +112,20 @@ module _ (s ws₀ : List ℕ) (w₀ : ℕ) (bs₀ : List ℕ) (b₀ : ℕ) (e fr
   pub rowing-start : Rowing ws₀ w₀ bs₀ b₀ from p₀ l₀
   rowing-start = record { on = omega arith; wide = refl; long = refl; same = λ ps n k. fills-start s _ _ _ refl }
 
-  module _ (ws : List ℕ) (w : ℕ) (bs : List ℕ) (b : ℕ) (at p l : ℕ) (g : Rowing ws w bs b at p l) (x : More) (h : (m : Role) (k : Unit {0} → Tree) → row m p e l k ≡ rowAfter m e k x) where
+  module _ (ws : List ℕ) (w : ℕ) (bs : List ℕ) (b : ℕ) (at p l : ℕ) (g : Rowing ws w bs b at p l) (x : More) (h : x ≡ afterNext p e l) where
     next : (ps : List ℕ) (n : ℕ) (k : Unit {0} → Tree) (y : More) → x ≡ y
         → Fills s (rooms ws₀ w₀ bs₀ b₀ ps n) (run (row kept p₀ e l₀ k) s from) (rooms ws w bs b ps n) (run (rowAfter kept e k y) s at)
-    next ps n k y q = fills-same s _ _ _ _ (g .same ps n k) _ (ap (λ (t : Tree). run t s at) (h kept k ∙ ap (rowAfter kept e k) q))
+    next ps n k y q = fills-same s _ _ _ _ (g .same ps n k) _ (ap (λ (t : Tree). run t s at) (row-next kept e k p l x h ∙ ap (rowAfter kept e k) q))
 
     pub rowing-end : x ≡ M.None → (ps : List ℕ) (n : ℕ) (k : Unit {0} → Tree)
         → Fills s (rooms ws₀ w₀ bs₀ b₀ ps n) (run (row kept p₀ e l₀ k) s from) (rooms ws w bs b ps n) (run (k tt) s at)
     rowing-end q ps n k = next ps n k M.None q
 
-    module _ (p' l' : ℕ) (q : x ≡ M.String p' l') (r : T.Text) (t : textRead r ≡ textOf (length s) (numberAt s at) at) where
-      pub rowing-bad : (which place : ℕ) → r ≡ Bad which place → (ps : List ℕ) (n : ℕ) (k : Unit {0} → Tree)
+    module _ (p' l' : ℕ) (q : x ≡ M.String p' l') (r : T.Text) (t : r ≡ textFound (textOf (length s) (numberAt s at) at)) where
+      pub rowing-bad : (y : Refusal) → r ≡ Bad y → (ps : List ℕ) (n : ℕ) (k : Unit {0} → Tree)
           → Fills s (rooms ws₀ w₀ bs₀ b₀ ps n) (run (row kept p₀ e l₀ k) s from) (rooms ws w bs b ps n) nothing
       unfolding afterText
-      rowing-bad which place f ps n k = fault-fills s _ _ _ _ (next ps n k (M.String p' l') q) which place (say-as s at r t (Bad which place) f kept (λ u. row kept p' e l' k))
+      rowing-bad y f ps n k = fault-fills s _ _ _ _ (next ps n k (M.String p' l') q) (y .which) (y .place) (say-as s at r t (Bad y) f kept (λ u. row kept p' e l' k))
 
       pub rowing-half : (start len : ℕ) → r ≡ Half start len → (ps : List ℕ) (n : ℕ) (k : Unit {0} → Tree)
           → Fills s (rooms ws₀ w₀ bs₀ b₀ ps n) (run (row kept p₀ e l₀ k) s from) (rooms ws w bs b ps n) nothing
@@ -153,10 +157,10 @@ module _ (s ps₀ : List ℕ) (n₀ from : ℕ) where
   pub copying-start : Copying ps₀ n₀ from
   copying-start = record { on = omega arith; wide = refl; same = λ ws w bs b k. fills-start s _ _ _ refl }
 
-  module _ (ps : List ℕ) (n at : ℕ) (g : Copying ps n at) (m : C.Chunk) (e : chunkRead m ≡ chunkOf (length s) (numberAt s at) at) where
-    pub copying-wrong : (which place : ℕ) → m ≡ Wrong which place → (ws : List ℕ) (w : ℕ) (bs : List ℕ) (b : ℕ) (k : Unit {0} → Tree)
+  module _ (ps : List ℕ) (n at : ℕ) (g : Copying ps n at) (m : C.Chunk) (e : m ≡ chunkFound (chunkOf (length s) (numberAt s at) at)) where
+    pub copying-wrong : (y : Refusal) → m ≡ Wrong y → (ws : List ℕ) (w : ℕ) (bs : List ℕ) (b : ℕ) (k : Unit {0} → Tree)
         → Fills s (rooms ws w bs b ps₀ n₀) (run (frames k) s from) (rooms ws w bs b ps n) nothing
-    copying-wrong which place q ws w bs b k = fault-fills s _ _ _ _ (g .same ws w bs b k) which place (frames-as s at m e (Wrong which place) q k)
+    copying-wrong y q ws w bs b k = fault-fills s _ _ _ _ (g .same ws w bs b k) (y .which) (y .place) (frames-as s at m e (Wrong y) q k)
 
     pub copying-last : (next : ℕ) → m ≡ Last next → (ws : List ℕ) (w : ℕ) (bs : List ℕ) (b : ℕ) (k : Unit {0} → Tree)
         → Fills s (rooms ws w bs b ps₀ n₀) (run (frames k) s from) (rooms ws w bs b ps n) (run (k tt) s next)

@@ -1,22 +1,18 @@
 -- Each public contract determines the lent room at exit; the places that it answers, up to what is put there. `Post` is what Rattle reads off the source.
 use Prim.Native.Nat.{ℕ}
-use mathlib.Core.Path.{_≡_, sym, _∙_, ap}
-use mathlib.Core.List.{List, []}
+use mathlib.Core.Path.{_≡_, sym, _∙_}
 use contract.Lifetimes.{Lfts}
 use borrow.Fn.Kinds.{Dens, endedOf}
 use denote.Triple.Clauses.{AtExit}
 use denote.Ref.{now}
 use Rattle.fill.specs.declared.Places.{Places}
-use Rattle.fill.specs.Fill.{Put}
+use Rattle.rooms.proofs.Unique.{put-told}
 use Rattle.fill.proofs.fill.Reads as fill
 use Rattle.fill.proofs.fill.Kinds as fill-kinds
 use Rattle.fill.proofs.fill_entries.Reads as fill-entries
 use Rattle.fill.proofs.fill_entries.Kinds as fill-entries-kinds
 use Rattle.fill.proofs.fill_entry_bytes.Reads as fill-entry-bytes
 use Rattle.fill.proofs.fill_entry_bytes.Kinds as fill-entry-bytes-kinds
-
-put-told : (lent : List ℕ) (at : ℕ) (vs out out′ : List ℕ) (n n′ : ℕ) → Put lent at vs out n → Put lent at vs out′ n′ → out ≡ out′
-put-told lent at vs out out′ n n′ p q = p .then [] ∙ sym (q .then [])
 
 pub fill-unique : (κs : Lfts 4) (a : Dens κs fill-kinds.ps) (r r′ : Places) (x x′ : AtExit (endedOf 4 fill-kinds.ps fill-kinds.r) κs)
     → fill.Post κs a r x → fill.Post κs a r′ x′

@@ -1,29 +1,17 @@
--- What it is to write into lent room, and what is still to be written of the pieces that are to come.
+-- What is still to be written of the pieces that are to come.
 use Prim.Native.Nat.{ℕ, _≤_}
-use mathlib.Core.Path.{_≡_}
-use mathlib.Core.List.{List, _++_}
-use lib.ListN.{length}
-use lib.Seq.{sets}
+use mathlib.Core.List.{List}
 use Rattle.layouts.specs.Shape.{Tree}
 use Rattle.layouts.specs.Pieces.{Pieces, fault, run}
 use Rattle.layouts.specs.Judge.{entriesOf, payloadOf}
 use Rattle.output.specs.Numbers.{bytesOf}
+use Rattle.rooms.specs.Rooms.{Filling}
 use Rattle.fill.specs.declared.Row.{Row}
 use Rattle.fill.specs.declared.Row.the-variants as R
 use Rattle.fill.specs.declared.Copied.{Copied}
 use Rattle.fill.specs.declared.Copied.the-variants as C
 use Rattle.fill.specs.declared.Filled.{Filled}
 use Rattle.fill.specs.declared.Filled.the-variants as F
-
--- vs stand in the room from a place on, and what is to follow them goes where they end; past the end of the room, nowhere
-pub record Put (lent : List ℕ) (at : ℕ) (vs out : List ℕ) (next : ℕ) : Type 0 where
-  pub size : length out ≡ length lent
-  pub then : (ws : List ℕ) → sets out next ws ≡ sets lent at (vs ++ ws)
-
--- es are to come from place n of the room on, on the way from the lent one with es₀ to come
-pub record Filling (lent : List ℕ) (from : ℕ) (es₀ out : List ℕ) (n : ℕ) (es : List ℕ) : Type 0 where
-  pub size : length out ≡ length lent
-  pub same : (ws : List ℕ) → sets out n (es ++ ws) ≡ sets lent from (es₀ ++ ws)
 
 -- the three rooms: p is to come where they stand now, on the way from where they stood with p₀ to come
 pub record Rooms : Type 0 where

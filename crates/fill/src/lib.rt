@@ -3,7 +3,7 @@
 // lends an empty room for the others.
 ghost use mathlib.Core.Path.{_≡_};
 ghost use mathlib.Core.Bool.{Bool};
-ghost use mathlib.Core.List.{List, [], _∷_};
+ghost use mathlib.Core.List.{List};
 ghost use Prim.Native.Nat.{ℕ, _+_, _≤_, _<_};
 ghost use lib.ListN.{length, take, drop};
 ghost use lib.Seq.{sets};
@@ -14,7 +14,8 @@ ghost use Rattle.table.specs.Table.{slotOf, whatOf};
 ghost use Rattle.strings.specs.Strings.{row};
 ghost use Rattle.items.specs.Items.{piecesOf};
 ghost use Rattle.output.specs.Numbers.{bytesOf};
-ghost use Rattle.fill.specs.Fill.{Put, Fills, rooms, rowRooms, afterRow, RowFrom, copiedRooms, afterCopied, CopiedFrom, filledRooms, afterFilled, FilledFrom};
+ghost use Rattle.rooms.specs.Rooms.{Put};
+ghost use Rattle.fill.specs.Fill.{Fills, rooms, rowRooms, afterRow, RowFrom, copiedRooms, afterCopied, CopiedFrom, filledRooms, afterFilled, FilledFrom};
 use items::Layout;
 use number::Number;
 use passing::Stop;
@@ -62,59 +63,13 @@ enum Filled {
     },
 }
 
-// A number into the room, and the place after it.
-fn put(out: &mut [u64], at: usize, x: u64) -> usize
-    ensures { λ r. ⌜ Put (now (out .entry)) at (x ∷ []) (now (out .exit)) r ⌝ }
-{
-    if at < out.len() {
-        out[at] = x;
-        return at + 1;
-    }
-    at
-}
-
-fn put_entry(out: &mut [u64], at: usize, start: usize, len: usize) -> usize
-    ensures { λ r. ⌜ Put (now (out .entry)) at (start ∷ len ∷ []) (now (out .exit)) r ⌝ }
-{
-    let second = put(out, at, start as u64);
-    put(out, second, len as u64)
-}
-
-// A part of the stream into a part of the room that holds it.
-fn copy_part(s: &[u8], start: usize, len: usize, out: &mut [u8], filled: usize)
-    requires { ⌜ (start + len ≤ length (now s)) × (filled + len ≤ length (now out)) ⌝ }
-    ensures { λ r. ⌜ now (out .exit) ≡ sets (now (out .entry)) filled (take len (drop start (now (s .entry)))) ⌝ }
-{
-    let end = start + len;
-    bytes::copy(&s[start..end], &mut out[filled..]);
-}
-
 // A chunk of the stream, into the room from where the last one stopped, and the place after it.
 fn put_chunk(s: &[u8], start: usize, len: usize, out: &mut [u8], filled: usize) -> usize
     requires { ⌜ start + len ≤ length (now s) ⌝ }
     ensures { λ r. ⌜ Put (now (out .entry)) filled (take len (drop start (now (s .entry)))) (now (out .exit)) r ⌝ }
 {
-    let size = out.len();
-    if size <= filled {
-        return filled;
-    }
-    let room = size - filled;
-    if room < len {
-        copy_part(s, start, room, out, filled);
-        return size;
-    }
-    copy_part(s, start, len, out, filled);
-    filled + len
-}
-
-// An entry as sixteen bytes.
-fn put_entry_bytes(out: &mut [u8], at: usize, start: usize, len: usize) -> usize
-    ensures { λ r. ⌜ Put (now (out .entry)) at (bytesOf (start ∷ len ∷ [])) (now (out .exit)) r ⌝ }
-{
-    let mut entry = [0u8; 16];
-    output::put_number(&mut entry, 0, start as u64);
-    output::put_number(&mut entry, 8, len as u64);
-    put_chunk(&entry, 0, 16, out, at)
+    let end = start + len;
+    rooms::put_bytes(out, filled, &s[start..end])
 }
 
 // The entries of a row of kept strings.
@@ -150,15 +105,15 @@ fn fill_row(
             More::String { pend, left } => {
                 let t = pieces::text_at(s, at);
                 match t {
-                    Text::Bad { which: _, place: _ } => {
+                    Text::Bad(_) => {
                         return Row::Over { words: w, bytes: b };
                     }
                     Text::Half { start: _, len: _ } => {
                         return Row::Over { words: w, bytes: b };
                     }
                     Text::Whole { start, len, next } => {
-                        w = put_entry(words, w, start, len);
-                        b = put_entry_bytes(bytes, b, start, len);
+                        w = rooms::put_entry(words, w, start, len);
+                        b = rooms::put_entry_bytes(bytes, b, start, len);
                         at = next;
                         p = pend;
                         l = left;
@@ -179,7 +134,7 @@ fn copy_frames(s: &[u8], from: usize, payload: &mut [u8], place: usize) -> Copie
     loop {
         let m = pieces::chunk_at(s, at);
         match m {
-            Chunk::Wrong { which: _, place: _ } => {
+            Chunk::Wrong(_) => {
                 return Copied::Over(filled);
             }
             Chunk::Last(next) => {
@@ -303,11 +258,12 @@ pub fn fill(
     ensures bytes { λ r. ⌜ Put (now (bytes .entry)) byte (bytesOf (entriesOf (piecesOf layout (now (s .entry)) from))) (now (bytes .exit)) (r .bytes) ⌝ }
     ensures payload { λ r. ⌜ now (payload .exit) ≡ sets (now (payload .entry)) 0 (payloadOf (now (s .entry)) (piecesOf layout (now (s .entry)) from)) ⌝ }
 {
+    let f = items::begin(layout);
     let mut at = from;
-    let mut pc = table::FIELD_COUNT;
-    let mut reps: u64 = 0;
-    let mut body = table::FIELD_COUNT;
-    let mut run = layout.first;
+    let mut pc = f.pc;
+    let mut reps = f.reps;
+    let mut body = f.body;
+    let mut run = f.run;
     let mut w = word;
     let mut b = byte;
     let mut p: usize = 0;
@@ -317,7 +273,7 @@ pub fn fill(
             Stop::End(_) => {
                 return Places { words: w, bytes: b };
             }
-            Stop::Refused { which: _, place: _ } => {
+            Stop::Refused(_) => {
                 return Places { words: w, bytes: b };
             }
             Stop::Stays { at: here, item } => {

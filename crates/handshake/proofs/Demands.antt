@@ -8,6 +8,7 @@ use contract.Lifetimes.{Lfts}
 use borrow.Fn.Kinds.{Dens, endedOf}
 use denote.Triple.Clauses.{AtExit}
 use denote.Ref.{now}
+use Rattle.layouts.specs.declared.Refusal.{Refusal}
 use Rattle.layouts.specs.Primitive.{version, Result}
 use Rattle.layouts.specs.Calls as L
 use Rattle.layouts.specs.Record.{blank}
@@ -26,8 +27,8 @@ module _ (κs : Lfts 3) (a : Dens κs parse-handshake-kinds.ps) (r : Answer) (x 
   abbrev handshakeSaid : Result L.Answer
   handshakeSaid = parseHandshake (now (a .0)) (now (a .1 .0)) (length (now (a .1 .1 .0)) / 2)
 
-  pub handshake-refused : (which place stream : ℕ) → r .outcome ≡ Refused which place stream → now (x .1 .1 .0) ≡ now (a .1 .1 .0)
-  handshake-refused which place stream f = refused-keeps r handshakeSaid (p .0) which place stream f _ _ _ (p .1)
+  pub handshake-refused : (y : Refusal) → r .outcome ≡ Refused y → now (x .1 .1 .0) ≡ now (a .1 .1 .0)
+  handshake-refused y f = refused-keeps r handshakeSaid (p .0) y f _ _ _ (p .1)
 
   pub handshake-written : r .outcome ≡ Fine → drop (2 * r .found .entries) (now (x .1 .1 .0)) ≡ drop (2 * r .found .entries) (now (a .1 .1 .0))
   handshake-written f =
@@ -40,8 +41,8 @@ module _ (κs : Lfts 2) (a : Dens κs parse-daemon-handshake-kinds.ps) (r : Answ
   abbrev daemonSaid : Result L.Answer
   daemonSaid = parseDaemonHandshake (version (a .0) (a .1 .0)) (now (a .1 .1 .0)) (length (now (a .1 .1 .1 .0)) / 2)
 
-  pub daemon-handshake-refused : (which place stream : ℕ) → r .outcome ≡ Refused which place stream → now (x .1 .1 .1 .0) ≡ now (a .1 .1 .1 .0)
-  daemon-handshake-refused which place stream f = refused-keeps r daemonSaid (p .0) which place stream f _ _ _ (p .1)
+  pub daemon-handshake-refused : (y : Refusal) → r .outcome ≡ Refused y → now (x .1 .1 .1 .0) ≡ now (a .1 .1 .1 .0)
+  daemon-handshake-refused y f = refused-keeps r daemonSaid (p .0) y f _ _ _ (p .1)
 
   pub daemon-handshake-written : r .outcome ≡ Fine → drop (2 * r .found .entries) (now (x .1 .1 .1 .0)) ≡ drop (2 * r .found .entries) (now (a .1 .1 .1 .0))
   daemon-handshake-written f =

@@ -8,9 +8,8 @@ ghost use Rattle.layouts.specs.Record.{blank};
 ghost use Rattle.layouts.specs.Judge.{lentAfter};
 ghost use Rattle.layouts.specs.Handshake.{hear, heardEntries, handshake, daemonHandshake, parseHandshake, parseDaemonHandshake};
 ghost use Rattle.judge.specs.Judged.{answerAs};
-ghost use Rattle.fill.specs.Fill.{Put};
+ghost use Rattle.rooms.specs.Rooms.{Put};
 ghost use Rattle.turns.specs.Greeted.{clientEntries, daemonEntries};
-use items::Layout;
 use judge::Answer;
 use judge::Outcome;
 use turns::Greeted;
@@ -22,11 +21,7 @@ fn fill_client(client: &[u8], greeted: Greeted, entries: &mut [u64]) -> usize
     fill::fill_entries(
         client,
         greeted.client_at,
-        Layout {
-            major: greeted.major,
-            minor: greeted.minor,
-            first: table::FEATURES_CLIENT,
-        },
+        items::layout(greeted.major, greeted.minor, table::FEATURES_CLIENT),
         entries,
         0,
     )
@@ -39,22 +34,14 @@ fn fill_daemon(daemon: &[u8], greeted: Greeted, entries: &mut [u64], from: usize
     let n = fill::fill_entries(
         daemon,
         greeted.features_at,
-        Layout {
-            major: greeted.major,
-            minor: greeted.minor,
-            first: table::FEATURES_DAEMON,
-        },
+        items::layout(greeted.major, greeted.minor, table::FEATURES_DAEMON),
         entries,
         from,
     );
     fill::fill_entries(
         daemon,
         greeted.info_at,
-        Layout {
-            major: greeted.major,
-            minor: greeted.minor,
-            first: table::INFO,
-        },
+        items::layout(greeted.major, greeted.minor, table::INFO),
         entries,
         n,
     )

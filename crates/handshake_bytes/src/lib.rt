@@ -9,9 +9,8 @@ ghost use Rattle.layouts.specs.Judge.{lentAfter};
 ghost use Rattle.layouts.specs.Handshake.{hear, heardEntries, handshake, daemonHandshake, parseHandshake, parseDaemonHandshake};
 ghost use Rattle.judge.specs.Judged.{answerAs};
 ghost use Rattle.output.specs.Numbers.{bytesOf};
-ghost use Rattle.fill.specs.Fill.{Put};
+ghost use Rattle.rooms.specs.Rooms.{Put};
 ghost use Rattle.turns.specs.Greeted.{clientEntries, daemonEntries};
-use items::Layout;
 use judge::Answer;
 use judge::Outcome;
 use turns::Greeted;
@@ -23,11 +22,7 @@ fn fill_client(client: &[u8], greeted: Greeted, entries: &mut [u8]) -> usize
     fill::fill_entry_bytes(
         client,
         greeted.client_at,
-        Layout {
-            major: greeted.major,
-            minor: greeted.minor,
-            first: table::FEATURES_CLIENT,
-        },
+        items::layout(greeted.major, greeted.minor, table::FEATURES_CLIENT),
         entries,
         0,
     )
@@ -40,22 +35,14 @@ fn fill_daemon(daemon: &[u8], greeted: Greeted, entries: &mut [u8], from: usize)
     let n = fill::fill_entry_bytes(
         daemon,
         greeted.features_at,
-        Layout {
-            major: greeted.major,
-            minor: greeted.minor,
-            first: table::FEATURES_DAEMON,
-        },
+        items::layout(greeted.major, greeted.minor, table::FEATURES_DAEMON),
         entries,
         from,
     );
     fill::fill_entry_bytes(
         daemon,
         greeted.info_at,
-        Layout {
-            major: greeted.major,
-            minor: greeted.minor,
-            first: table::INFO,
-        },
+        items::layout(greeted.major, greeted.minor, table::INFO),
         entries,
         n,
     )

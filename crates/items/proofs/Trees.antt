@@ -10,21 +10,27 @@ use Rattle.layouts.specs.Primitive.{pick, Version, version, atLeast}
 use Rattle.layouts.specs.Shape.{What, Item, always, from, below, Group, Tree, ask, stop, field, there, what, gated, fields, repeated, truth, group, groups, layout}
 use Rattle.table.specs.declared.Field.{Field}
 use Rattle.table.specs.declared.Run.{Run}
-use Rattle.table.specs.Packed.{fieldCount, runCount, fieldTable}
+use Rattle.table.specs.Packed.{size, packedTable, nothing, emptyFields, oneNumber}
 use Rattle.table.specs.Table.{fieldAt, runAt, roleOf, slotOf, whatOf, itemOf, unlessEnd, consItem, items, itemsAt, groupOf, consRun, groupsAt}
+use Rattle.table.specs.Claims.{others}
 use Rattle.table.proofs.Tables.{items-step, groups-step, field-in, run-in}
-use Rattle.items.specs.declared.Layout.{Layout}
 use Rattle.items.specs.declared.Item as I
-use Rattle.items.specs.Items.{versionOf, layoutTree, isEmpty, beginItem, runTree, restTree, timesOf, onto, itemTree, item, isThere, runItem, afterFields, fieldItem, nextItem, Falls}
+use Rattle.items.specs.declared.Brief.{Brief}
+use Rattle.items.specs.declared.Brief.the-variants as B
+use Rattle.items.specs.Items.{firstOf, versionOf, layoutTree, layoutPieces, piecesOf, briefOf, Briefly, beginItem, runTree, restTree, timesOf, onto, itemTree, item, isThere, runItem, afterFields, fieldItem, nextItem, Falls}
 
 pub truth-some : (n : ℕ) → (n ≡ 0 → ⊥) → 1 ≡ truth n
 truth-some zero h = absurd (h refl)
 truth-some (suc n) h = refl
 
 -- the state before the first item
-pub layout-start : (l : Layout) → restTree (versionOf l) fieldCount 0 fieldCount (l .first) tt ≡ layoutTree l
-unfolding restTree runTree fields repeated layout itemsAt items fieldTable
+pub layout-start : (l : ℕ) → restTree (versionOf l) size 0 size (firstOf l) tt ≡ layoutTree l
+unfolding restTree runTree fields repeated layout itemsAt items packedTable
 layout-start l = refl
+
+-- the pieces of a layout that was made of a version and a place, as `items::layout` makes it
+pub pieces-of : (l : ℕ) (v : Version) (i : ℕ) → (versionOf l ≡ v) × (firstOf l ≡ i) → (s : List ℕ) (at : ℕ) → piecesOf l s at ≡ layoutPieces v i s at
+pieces-of l v i e s at = ap (λ (w : Version). layoutPieces w (firstOf l) s at) (e .0) ∙ ap (λ (j : ℕ). layoutPieces v j s at) (e .1)
 
 -- ---- an item by its kind
 module _ (v : Version) (r : I.Item) where
@@ -65,16 +71,16 @@ module _ (i : ℕ) (x : Run) (e : x ≡ runAt i) where
   abbrev RunMeets : I.Item → Type 0
   RunMeets r = (r ≡ runItem i (runAt i)) × (((v : Version) (body : ℕ) → runTree v 0 body i tt ≡ itemTree v r) × ((pc : ℕ) → Falls pc 0 i r))
 
-  pub run-ends : x .kind ≡ 0 → RunMeets (item 0 0 0 fieldCount 0 fieldCount i)
+  pub run-ends : x .kind ≡ 0 → RunMeets (item 0 0 0 size 0 size i)
   unfolding itemTree groups consRun unlessEnd
   run-ends k = (rw (← e, k), (λ v body. run-cons v body ∙ rw (eq-eqb (x .kind) 0 k), λ pc z l. absurd (z refl)))
 
-  pub run-flag : x .kind ≡ 2 → RunMeets (item 17 0 (x .slot) fieldCount 0 (x .start) (i + 1))
-  unfolding itemTree group groupOf restTree runTree fields itemsAt items fieldTable
+  pub run-flag : x .kind ≡ 2 → RunMeets (item 17 0 (x .slot) size 0 (x .start) (i + 1))
+  unfolding itemTree group groupOf restTree runTree fields itemsAt items packedTable
   run-flag k = (rw (← e, k), (λ v body. run-group v body (λ h. let y : _≡_ {A = ℕ} 0 2 = sym h ∙ k in omega arith) ∙ rw k, λ pc z l. absurd (omega arith)))
 
-  pub run-count : x .kind ≡ 3 → RunMeets (item 18 0 (x .slot) fieldCount 0 (x .start) (i + 1))
-  unfolding itemTree group groupOf restTree runTree fields itemsAt items fieldTable
+  pub run-count : x .kind ≡ 3 → RunMeets (item 18 0 (x .slot) size 0 (x .start) (i + 1))
+  unfolding itemTree group groupOf restTree runTree fields itemsAt items packedTable
   run-count k = (rw (← e, k), (λ v body. run-group v body (λ h. let y : _≡_ {A = ℕ} 0 3 = sym h ∙ k in omega arith) ∙ rw k, λ pc z l. absurd (omega arith)))
 
   pub run-starts : (x .kind ≡ 0 → ⊥) → (x .kind ≡ 2 → ⊥) → (x .kind ≡ 3 → ⊥) → RunMeets (item 16 0 0 (x .start) 0 (x .start) (i + 1))
@@ -199,50 +205,46 @@ module _ (v : Version) (pc reps body i : ℕ) (f : Field) (e : f ≡ fieldAt pc)
           ),
         )
 
--- ---- a layout without fields
-module _ (l : Layout) where
-  first-run : layoutTree l ≡ runTree (versionOf l) 0 fieldCount (l .first) tt
-  unfolding restTree fields itemsAt items fieldTable
-  first-run = sym (layout-start l)
+-- ---- a layout that needs no fold
+module _ (l i : ℕ) (q : i ≡ firstOf l) where
+  abbrev InBrief : Brief → Type 0
+  InBrief b = (b ≡ briefOf (firstOf l)) × Briefly (layoutTree l) b
 
-  abbrev Empties : Bool → Type 0
-  Empties b = (b ≡ isEmpty (l .first)) × (b ≡ true → layoutTree l ≡ stop)
+  pub brief-nothing : i ≡ nothing → InBrief B.Nothing
+  unfolding layout groups
+  brief-nothing e = (rw (← q, eq-eqb i nothing e), rw (← q, e, ← others .none))
 
-  module _ (x : Run) (e : x ≡ runAt (l .first)) where
-    pub empty-none : x .kind ≡ 0 → Empties true
-    empty-none k = (rw (← e, eq-eqb (x .kind) 0 k), λ y. first-run ∙ run-ends (l .first) x e k .1 .0 (versionOf l) fieldCount ∙ end-item (versionOf l) _ refl)
+  module _ (a : i ≡ nothing → ⊥) where
+    pub brief-empty : i ≡ emptyFields → InBrief B.Nothing
+    unfolding layout groups group fields
+    brief-empty e = (rw (← q, ne-eqb i nothing a, eq-eqb i emptyFields e), rw (← q, e, ← others .empty))
 
-    module _ (a : x .kind ≡ 0 → ⊥) where
-      pub empty-counted : (x .kind ≡ 1 → ⊥) → Empties false
-      empty-counted h = (rw (← e, ne-eqb (x .kind) 0 a, ne-eqb (x .kind) 1 h), λ y. absurd (not-so y))
+    module _ (b : i ≡ emptyFields → ⊥) where
+      pub brief-number : i ≡ oneNumber → InBrief B.Number
+      unfolding layout groups group fields gated field
+      brief-number e = (rw (← q, ne-eqb i nothing a, ne-eqb i emptyFields b, eq-eqb i oneNumber e), rw (← q, e, ← others .number))
 
-      module _ (k : x .kind ≡ 1) (f : Field) (g : f ≡ fieldAt (x .start)) where
-        pub empty-fields : (f .kind ≡ 0 → ⊥) → Empties false
-        empty-fields h = (rw (← e, ne-eqb (x .kind) 0 a, eq-eqb (x .kind) 1 k, ← g, ne-eqb (f .kind) 0 h), λ y. absurd (not-so y))
-
-        module _ (h : f .kind ≡ 0) (z : Run) (q : z ≡ runAt (l .first + 1)) where
-          last-by : (b : Bool) → eqb (z .kind) 0 ≡ b → b ≡ true → layoutTree l ≡ stop
-          last-by b w y =
-              let v = versionOf l in
-              first-run
-              ∙ once-starts (l .first) x e k .1 .0 v fieldCount
-              ∙ quiet-item v (item 16 0 0 (x .start) 0 (x .start) (l .first + 1)) refl
-              ∙ field-none v (x .start) 0 (x .start) (l .first + 1) f g h
-              ∙ run-ends (l .first + 1) z q (eqb-true (z .kind) 0 (w ∙ y)) .1 .0 v (x .start) ∙ end-item v _ refl
-
-          pub empty-last : Empties (eqb (z .kind) 0)
-          empty-last = (rw (← e, ne-eqb (x .kind) 0 a, eq-eqb (x .kind) 1 k, ← g, eq-eqb (f .kind) 0 h, ← q), λ y. last-by (eqb (z .kind) 0) refl y)
+      pub brief-longer : (i ≡ oneNumber → ⊥) → InBrief B.Longer
+      brief-longer c = (rw (← q, ne-eqb i nothing a, ne-eqb i emptyFields b, ne-eqb i oneNumber c), tt)
 
 -- ---- where a layout begins
-module _ (l : Layout) (x : Run) (e : x ≡ runAt (l .first)) where
-  abbrev Begins : I.Item → Type 0
-  Begins r = (r ≡ beginItem (l .first)) × (restTree (versionOf l) (r .pc) (r .reps) (r .body) (r .run) tt ≡ layoutTree l)
+first-run : (l : ℕ) → layoutTree l ≡ runTree (versionOf l) 0 size (firstOf l) tt
+unfolding restTree fields itemsAt items packedTable
+first-run l = sym (layout-start l)
 
-  pub begin-inside : x .kind ≡ 1 → Begins (item 16 0 0 (x .start) 0 (x .start) (l .first + 1))
+module _ (l i : ℕ) (q : i ≡ firstOf l) (x : Run) (e : x ≡ runAt i) where
+  abbrev Begins : I.Item → Type 0
+  Begins r = (r ≡ beginItem (firstOf l)) × (restTree (versionOf l) (r .pc) (r .reps) (r .body) (r .run) tt ≡ layoutTree l)
+
+  pub begin-inside : x .kind ≡ 1 → Begins (item 16 0 0 (x .start) 0 (x .start) (i + 1))
   begin-inside k = (
-    rw (← e, eq-eqb (x .kind) 1 k),
-    sym (first-run l ∙ once-starts (l .first) x e k .1 .0 (versionOf l) fieldCount ∙ quiet-item (versionOf l) (item 16 0 0 (x .start) 0 (x .start) (l .first + 1)) refl),
+    rw (← q, ← e, eq-eqb (x .kind) 1 k),
+    sym
+        (first-run l
+        ∙ ap (λ (j : ℕ). runTree (versionOf l) 0 size j tt) (sym q)
+        ∙ once-starts i x e k .1 .0 (versionOf l) size
+        ∙ quiet-item (versionOf l) (item 16 0 0 (x .start) 0 (x .start) (i + 1)) refl),
   )
 
-  pub begin-before : (x .kind ≡ 1 → ⊥) → Begins (item 16 0 0 fieldCount 0 fieldCount (l .first))
-  begin-before h = (rw (← e, ne-eqb (x .kind) 1 h), layout-start l)
+  pub begin-before : (x .kind ≡ 1 → ⊥) → Begins (item 16 0 0 size 0 size i)
+  begin-before h = (rw (← q, ← e, ne-eqb (x .kind) 1 h), ap (λ (j : ℕ). restTree (versionOf l) size 0 size j tt) q ∙ layout-start l)

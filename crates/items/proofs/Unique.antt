@@ -1,17 +1,24 @@
 -- The iterator's answer is a function of its state: two answers that meet a contract are equal. `Post` is what Rattle reads off the source.
 use Prim.Native.Nat.{ℕ}
-use mathlib.Core.Path.{_≡_, sym, _∙_}
-use mathlib.Core.Bool.{Bool}
+use mathlib.Core.Path.{_≡_, sym, _∙_, ap}
+use native.Mathlib.Omega.{arith}
 use contract.Lifetimes.{Lfts}
 use borrow.Fn.Kinds.{Dens, endedOf}
 use denote.Triple.Clauses.{AtExit}
+use Rattle.layouts.specs.Primitive.{Version}
 use Rattle.items.specs.declared.Item.{Item}
+use Rattle.items.specs.declared.Brief.{Brief}
+use Rattle.items.specs.Items.{firstOf, versionOf}
+use Rattle.items.proofs.layout.Reads as layout
+use Rattle.items.proofs.layout.Kinds as layout-kinds
+use Rattle.items.proofs.spoken.Reads as spoken
+use Rattle.items.proofs.spoken.Kinds as spoken-kinds
 use Rattle.items.proofs.begin.Reads as begin
 use Rattle.items.proofs.begin.Kinds as begin-kinds
 use Rattle.items.proofs.next.Reads as next
 use Rattle.items.proofs.next.Kinds as next-kinds
-use Rattle.items.proofs.is_empty.Reads as is-empty
-use Rattle.items.proofs.is_empty.Kinds as is-empty-kinds
+use Rattle.items.proofs.in_brief.Reads as in-brief
+use Rattle.items.proofs.in_brief.Kinds as in-brief-kinds
 use Rattle.items.proofs.times.Reads as times
 use Rattle.items.proofs.times.Kinds as times-kinds
 
@@ -23,10 +30,22 @@ pub times-unique : (κs : Lfts 0) (a : Dens κs times-kinds.ps) (r r′ : ℕ) (
     → times.Post κs a r x → times.Post κs a r′ x′ → r ≡ r′
 times-unique κs a r r′ x x′ p q = p ∙ sym q
 
-pub is-empty-unique : (κs : Lfts 0) (a : Dens κs is-empty-kinds.ps) (r r′ : Bool) (x x′ : AtExit (endedOf 0 is-empty-kinds.ps is-empty-kinds.r) κs)
-    → is-empty.Post κs a r x → is-empty.Post κs a r′ x′ → r ≡ r′
-is-empty-unique κs a r r′ x x′ p q = p .0 ∙ sym (q .0)
+pub in-brief-unique : (κs : Lfts 0) (a : Dens κs in-brief-kinds.ps) (r r′ : Brief) (x x′ : AtExit (endedOf 0 in-brief-kinds.ps in-brief-kinds.r) κs)
+    → in-brief.Post κs a r x → in-brief.Post κs a r′ x′ → r ≡ r′
+in-brief-unique κs a r r′ x x′ p q = p .0 ∙ sym (q .0)
 
 pub begin-unique : (κs : Lfts 0) (a : Dens κs begin-kinds.ps) (r r′ : Item) (x x′ : AtExit (endedOf 0 begin-kinds.ps begin-kinds.r) κs)
     → begin.Post κs a r x → begin.Post κs a r′ x′ → r ≡ r′
 begin-unique κs a r r′ x x′ p q = p .0 ∙ sym (q .0)
+
+pub layout-unique : (κs : Lfts 0) (a : Dens κs layout-kinds.ps) (r r′ : ℕ) (x x′ : AtExit (endedOf 0 layout-kinds.ps layout-kinds.r) κs)
+    → layout.Post κs a r x → layout.Post κs a r′ x′ → r ≡ r′
+layout-unique κs a r r′ x x′ p q =
+    let m : versionOf r .major ≡ versionOf r′ .major = ap (λ (v : Version). v .major) (p .0 ∙ sym (q .0)) in
+    let n : versionOf r .minor ≡ versionOf r′ .minor = ap (λ (v : Version). v .minor) (p .0 ∙ sym (q .0)) in
+    let f : firstOf r ≡ firstOf r′ = p .1 ∙ sym (q .1) in
+    omega arith
+
+pub spoken-unique : (κs : Lfts 0) (a : Dens κs spoken-kinds.ps) (r r′ : ℕ) (x x′ : AtExit (endedOf 0 spoken-kinds.ps spoken-kinds.r) κs)
+    → spoken.Post κs a r x → spoken.Post κs a r′ x′ → r ≡ r′
+spoken-unique κs a r r′ x x′ p q = p ∙ sym q

@@ -1,37 +1,47 @@
 -- What is still to come of a layout, from a state on: a tree. No stream is known here.
-use Prim.Native.Nat.{ℕ, _+_, _-_, _*_, _<_, _≤_}
+use Prim.Native.Nat.{ℕ, _+_, _-_, _*_, _/_, _%_, _<_, _≤_}
 use mathlib.Core.Path.{_≡_}
 use mathlib.Core.List.{List}
 use mathlib.Core.Bool.{Bool, true, false, not}
 use lib.Dec.{eqb, ltb}
 use Rattle.layouts.specs.Primitive.{pick, Version, version, atLeast}
-use Rattle.layouts.specs.Shape.{Tree, ask, stop, field, fields, repeated, groups, layout, truth, units, ifTrue, byType}
+use Rattle.layouts.specs.Shape.{asNumber, Tree, ask, stop, field, fields, repeated, groups, layout, truth, units, ifTrue, byType}
 use Rattle.layouts.specs.Pieces.{Pieces, run}
 use Rattle.table.specs.declared.Field.{Field}
 use Rattle.table.specs.declared.Run.{Run}
-use Rattle.table.specs.Packed.{fieldCount, runCount}
-use Rattle.table.specs.Table.{fieldAt, runAt, roleOf, slotOf, whatOf, itemsAt, groupsAt}
-use Rattle.items.specs.declared.Layout.{Layout}
+use Rattle.table.specs.Packed.{size, nothing, emptyFields, oneNumber}
+use Rattle.table.specs.Table.{fieldAt, runAt, roleOf, slotOf, whatOf, itemsAt, groupsAt, versionIn}
 use Rattle.items.specs.declared.Item.{Item}
+use Rattle.items.specs.declared.Brief.{Brief}
+use Rattle.items.specs.declared.Brief.the-variants as B
 
--- ---- a layout
-abbrev pub versionOf : Layout → Version
-versionOf l = version (l .major) (l .minor)
+-- ---- a layout, as one number
+abbrev pub spokenOf : (layout : ℕ) → ℕ
+spokenOf l = l % 16777216
 
-abbrev pub layoutTree : Layout → Tree
-layoutTree l = layout (versionOf l) (groupsAt (l .first))
+abbrev pub firstOf : (layout : ℕ) → ℕ
+firstOf l = l / 16777216
+
+abbrev pub versionOf : (layout : ℕ) → Version
+versionOf l = versionIn (spokenOf l)
+
+abbrev pub layoutTree : (layout : ℕ) → Tree
+layoutTree l = layout (versionOf l) (groupsAt (firstOf l))
 
 abbrev pub layoutPieces : Version → (first : ℕ) → List ℕ → (at : ℕ) → Pieces
 layoutPieces v i s at = run (layout v (groupsAt i)) s at
 
-abbrev pub piecesOf : Layout → List ℕ → (at : ℕ) → Pieces
-piecesOf l s at = layoutPieces (versionOf l) (l .first) s at
+abbrev pub piecesOf : (layout : ℕ) → List ℕ → (at : ℕ) → Pieces
+piecesOf l s at = layoutPieces (versionOf l) (firstOf l) s at
 
--- no run, or one without fields
-abbrev pub isEmpty : (run : ℕ) → Bool
-isEmpty i =
-    pick (eqb (runAt i .kind) 0) true
-    (pick (eqb (runAt i .kind) 1) (pick (eqb (fieldAt (runAt i .start) .kind) 0) (eqb (runAt (i + 1) .kind) 0) false) false)
+-- ---- no field at all, or a number and no more
+abbrev pub briefOf : (first : ℕ) → Brief
+briefOf i = pick (eqb i nothing) B.Nothing (pick (eqb i emptyFields) B.Nothing (pick (eqb i oneNumber) B.Number B.Longer))
+
+abbrev pub Briefly : Tree → Brief → Type 0
+Briefly t B.Nothing = t ≡ stop
+Briefly t B.Number = t ≡ ask (asNumber 0) (λ n. stop)
+Briefly t B.Longer = Unit {0}
 
 -- ---- a state: the place of the next field, how often the body comes again, the place of the body, the next run
 -- what follows the fields of a run
@@ -64,13 +74,13 @@ abbrev pub isThere : Version → (gate minor : ℕ) → Bool
 isThere v gate minor = pick (eqb gate 0) true (pick (eqb gate 1) (atLeast v (version 1 minor)) (not (atLeast v (version 1 minor))))
 
 abbrev pub beginItem : (run : ℕ) → Item
-beginItem i = pick (eqb (runAt i .kind) 1) (item 16 0 0 (runAt i .start) 0 (runAt i .start) (i + 1)) (item 16 0 0 fieldCount 0 fieldCount i)
+beginItem i = pick (eqb (runAt i .kind) 1) (item 16 0 0 (runAt i .start) 0 (runAt i .start) (i + 1)) (item 16 0 0 size 0 size i)
 
 abbrev pub runItem : (run : ℕ) → Run → Item
 runItem i x =
-    pick (eqb (x .kind) 0) (item 0 0 0 fieldCount 0 fieldCount i)
-    (pick (eqb (x .kind) 2) (item 17 0 (x .slot) fieldCount 0 (x .start) (i + 1))
-    (pick (eqb (x .kind) 3) (item 18 0 (x .slot) fieldCount 0 (x .start) (i + 1)) (item 16 0 0 (x .start) 0 (x .start) (i + 1))))
+    pick (eqb (x .kind) 0) (item 0 0 0 size 0 size i)
+    (pick (eqb (x .kind) 2) (item 17 0 (x .slot) size 0 (x .start) (i + 1))
+    (pick (eqb (x .kind) 3) (item 18 0 (x .slot) size 0 (x .start) (i + 1)) (item 16 0 0 (x .start) 0 (x .start) (i + 1))))
 
 abbrev pub afterFields : (reps body run : ℕ) → Item
 afterFields reps body i = pick (ltb 0 reps) (item 16 0 0 body (reps - 1) body i) (runItem i (runAt i))
@@ -94,7 +104,7 @@ afterNumber kind role n k =
 
 -- ---- the measure: runs, then times, then fields. A u64 of times takes less than 2^75, and all of it less than 2^90
 abbrev pub rank : (pc reps run : ℕ) → ℕ
-rank pc reps i = (runCount - i) * 37778931862957161709568 + reps * 256 + (fieldCount - pc)
+rank pc reps i = (size - i) * 37778931862957161709568 + reps * 512 + (size - pc)
 
 -- it falls with each field, and where nothing is read
 abbrev pub Falls : (pc reps run : ℕ) → Item → Type 0

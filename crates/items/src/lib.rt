@@ -4,9 +4,8 @@ ghost use mathlib.Core.Path.{_≡_};
 ghost use Prim.Native.Nat.{ℕ};
 ghost use mathlib.Core.Bool.{true};
 ghost use Rattle.layouts.specs.Primitive.{Version, version};
-ghost use Rattle.layouts.specs.Shape.{stop};
 ghost use Rattle.table.specs.Table.{runAt};
-ghost use Rattle.items.specs.Items.{versionOf, layoutTree, isEmpty, beginItem, isThere, runTree, restTree, timesOf, itemTree, runItem, afterFields, nextItem, Falls};
+ghost use Rattle.items.specs.Items.{spokenOf, firstOf, versionOf, layoutTree, briefOf, Briefly, beginItem, isThere, runTree, restTree, timesOf, itemTree, runItem, afterFields, nextItem, Falls};
 
 // Kinds of items besides those of fields, which are below 16: nothing to read; a flag, or a count, that says how often the body comes.
 pub const QUIET: u8 = 16;
@@ -15,11 +14,29 @@ pub const FLAG: u8 = 17;
 
 pub const COUNT: u8 = 18;
 
-// What chooses a layout: the version that is spoken, and the first of its runs in the table.
-pub struct Layout {
-    pub major: u16,
-    pub minor: u8,
-    pub first: usize,
+// What chooses a layout: the version that is spoken, as one number, and 2^24 times the first of its runs in the table. A number goes in a register; a struct
+// goes through memory, and its reader waits for the narrow stores.
+pub type Layout = u64;
+
+const FIRST: u64 = 16777216;
+
+pub fn layout(major: u16, minor: u8, first: u8) -> Layout
+    ensures version { λ r. ⌜ versionOf r ≡ version major minor ⌝ }
+    ensures first { λ r. ⌜ firstOf r ≡ first ⌝ }
+{
+    first as u64 * FIRST + major as u64 * 256 + minor as u64
+}
+
+pub fn spoken(layout: Layout) -> u64
+    ensures { λ r. ⌜ r ≡ spokenOf layout ⌝ }
+{
+    layout % FIRST
+}
+
+fn first(layout: Layout) -> usize
+    ensures { λ r. ⌜ r ≡ firstOf layout ⌝ }
+{
+    (layout / FIRST) as usize
 }
 
 // What comes next, and the state after it: the place of the next field, how often the body comes again, the place of the body, the next run.
@@ -33,36 +50,38 @@ pub struct Item {
     pub run: usize,
 }
 
-// Does the layout have no field at all? Many calls have none, and need no fold.
-pub fn is_empty(layout: Layout) -> bool
-    ensures said { λ r. ⌜ r ≡ isEmpty (layout .first) ⌝ }
-    ensures law { λ r. ⌜ (r ≡ true → layoutTree layout ≡ stop) ⌝ }
+// A layout that needs no fold: no field at all, or a number and no more. Many calls have such a one.
+pub enum Brief {
+    Nothing,
+    Number,
+    Longer,
+}
+
+pub fn in_brief(layout: Layout) -> Brief
+    ensures said { λ r. ⌜ r ≡ briefOf (firstOf layout) ⌝ }
+    ensures law { λ r. ⌜ Briefly (layoutTree layout) r ⌝ }
 {
-    let i = layout.first;
-    let x = field_runs::packed(i);
-    let kind = (x % 4) as u8;
-    if kind == table::END {
-        return true;
+    let i = first(layout);
+    if i == table::NOTHING as usize {
+        return Brief::Nothing;
     }
-    if kind != table::ONCE {
-        return false;
+    if i == table::EMPTY_FIELDS as usize {
+        return Brief::Nothing;
     }
-    let y = fields::packed((x / 256) as usize);
-    if (y % 16) as u8 != table::END {
-        return false;
+    if i == table::ONE_NUMBER as usize {
+        return Brief::Number;
     }
-    let z = field_runs::packed(i + 1);
-    (z % 4) as u8 == table::END
+    Brief::Longer
 }
 
 // A state from which the whole layout is to come: at the first field, where the first run comes once. Before it would do too; short messages are passed a
 // tenth faster so.
 pub fn begin(layout: Layout) -> Item
-    ensures said { λ r. ⌜ r ≡ beginItem (layout .first) ⌝ }
+    ensures said { λ r. ⌜ r ≡ beginItem (firstOf layout) ⌝ }
     ensures law { λ r. ⌜ restTree (versionOf layout) (r .pc) (r .reps) (r .body) (r .run) tt ≡ layoutTree layout ⌝ }
 {
-    let i = layout.first;
-    let x = field_runs::packed(i);
+    let i = first(layout);
+    let x = packed::at(i);
     let start = (x / 256) as usize;
     if (x % 4) as u8 == table::ONCE {
         return Item {
@@ -79,9 +98,9 @@ pub fn begin(layout: Layout) -> Item
         kind: QUIET,
         role: 0,
         slot: 0,
-        pc: table::FIELD_COUNT,
+        pc: table::SIZE,
         reps: 0,
-        body: table::FIELD_COUNT,
+        body: table::SIZE,
         run: i,
     }
 }
@@ -93,7 +112,7 @@ fn is_there(layout: Layout, gate: u8, bound: u8) -> bool
     if gate == table::ALWAYS {
         return true;
     }
-    let reached = kinds::at_least(layout.major, layout.minor, bound);
+    let reached = kinds::at_least(spoken(layout), bound);
     if gate == table::FROM {
         return reached;
     }
@@ -119,7 +138,7 @@ fn next_run(i: usize) -> Item
     ensures law { λ r. ⌜ ((v : Version) (body : ℕ) → runTree v 0 body i tt ≡ itemTree v r) ⌝ }
     ensures falls { λ r. ⌜ ((pc : ℕ) → Falls pc 0 i r) ⌝ }
 {
-    let x = field_runs::packed(i);
+    let x = packed::at(i);
     let kind = (x % 4) as u8;
     let slot = (x / 4 % 64) as u8;
     let start = (x / 256) as usize;
@@ -128,9 +147,9 @@ fn next_run(i: usize) -> Item
             kind: table::END,
             role: 0,
             slot: 0,
-            pc: table::FIELD_COUNT,
+            pc: table::SIZE,
             reps: 0,
-            body: table::FIELD_COUNT,
+            body: table::SIZE,
             run: i,
         };
     }
@@ -140,7 +159,7 @@ fn next_run(i: usize) -> Item
             kind: FLAG,
             role: 0,
             slot: slot,
-            pc: table::FIELD_COUNT,
+            pc: table::SIZE,
             reps: 0,
             body: start,
             run: later,
@@ -151,7 +170,7 @@ fn next_run(i: usize) -> Item
             kind: COUNT,
             role: 0,
             slot: slot,
-            pc: table::FIELD_COUNT,
+            pc: table::SIZE,
             reps: 0,
             body: start,
             run: later,
@@ -193,7 +212,7 @@ pub fn next(layout: Layout, pc: usize, reps: u64, body: usize, run: usize) -> It
     ensures law { λ r. ⌜ restTree (versionOf layout) pc reps body run tt ≡ itemTree (versionOf layout) r ⌝ }
     ensures falls { λ r. ⌜ Falls pc reps run r ⌝ }
 {
-    let x = fields::packed(pc);
+    let x = packed::at(pc);
     let kind = (x % 16) as u8;
     if kind == table::END {
         return after_fields(reps, body, run);

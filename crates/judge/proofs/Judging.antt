@@ -1,60 +1,78 @@
 -- Item by item: what remains is judged as the whole.
-use Prim.Native.Nat.{ℕ, _+_, _-_, _≤_, _<_}
+use Prim.Native.Nat.{ℕ, _+_, _-_, _*_, _≤_, _<_, zero, suc}
 use mathlib.Core.Path.{_≡_, refl, sym, _∙_, ap, subst}
-use mathlib.Core.List.{List}
+use mathlib.Core.List.{List, []}
 use mathlib.Core.Bool.{Bool, not}
-use lib.ListN.{length, set}
+use lib.ListN.{length, set, take}
+use lib.Seq.{sets}
 use lib.Dec.{eqb}
 use native.Mathlib.Omega.{arith}
 use borrow.Author.Tests.{lt-ltb}
 use Rattle.layouts.specs.declared.Record.{Record}
-use Rattle.layouts.specs.Primitive.{pick, Version, Result, ok, refused}
+use Rattle.layouts.specs.Primitive.{pick, Version, Result, ok}
+use Rattle.layouts.specs.declared.Refusal.{Refusal}
+use Rattle.layouts.specs.Refusal.{refusedBy}
 use Rattle.layouts.specs.Shape.{Tree, truth}
-use Rattle.layouts.specs.Pieces.{run}
+use Rattle.layouts.specs.Pieces.{Pieces, run}
 use Rattle.layouts.specs.Record.{noted, withEntries, withPayload, withNumber, withCount, withPresence}
-use Rattle.layouts.specs.Judge.{Ended, judgeOf}
-use Rattle.table.specs.Packed.{fieldCount}
+use Rattle.layouts.specs.Judge.{Ended, judgeOf, entriesOf}
 use Rattle.table.specs.Table.{slotOf}
-use Rattle.items.specs.declared.Layout.{Layout}
 use Rattle.items.specs.declared.Item.{Item}
 use Rattle.items.specs.Items.{versionOf, layoutTree, piecesOf, restTree, itemTree, Falls}
-use Rattle.items.proofs.Trees.{layout-start, end-item, quiet-item}
+use Rattle.items.proofs.Trees.{end-item, quiet-item}
 use Rattle.passing.specs.Passing.{fuelOf}
 use Rattle.judge.specs.declared.Answer.{Answer}
 use Rattle.judge.specs.declared.Fed.{Fed}
 use Rattle.judge.specs.declared.Fed.the-variants as F
-use Rattle.judge.specs.Judged.{gathered, answerAs, endedAs, fedTo, FedTook}
+use Rattle.judge.specs.Judged.{gathered, answerAs, endedAs, ahead, fedTo, fedIn, Feeds, FedTook}
 use Rattle.judge.proofs.Notes.{noted-none, noted-number, noted-flag, noted-count, noted-presence, is-true}
 
-abbrev pub toJudge : List ℕ → (slots room : ℕ) → Record → Version → (at pc reps body i : ℕ) → Result Ended
-toJudge s slots room got ver at pc reps body i = judgeOf s slots room got (run (restTree ver pc reps body i tt) s at)
+take-none : (n : ℕ) → take {A = ℕ} n [] ≡ []
+take-none zero = refl
+take-none (suc n) = refl
 
-pub judge-start : (s : List ℕ) (slots room : ℕ) (got : Record) (l : Layout) (at : ℕ)
-    → toJudge s slots room got (versionOf l) at fieldCount 0 fieldCount (l .first) ≡ judgeOf s slots room got (piecesOf l s at)
-judge-start s slots room got l at = ap (λ (t : Tree). judgeOf s slots room got (run t s at)) (layout-start l)
+abbrev pub toCome : List ℕ → Version → (at pc reps body i : ℕ) → Pieces
+toCome s ver at pc reps body i = run (restTree ver pc reps body i tt) s at
+
+-- with the record got, and the window w, what is to come is judged as the whole was, which is to end in o and v
+pub record Going (s : List ℕ) (slots room : ℕ) (o : Result Ended) (v : List ℕ) (got : Record) (w : List ℕ) (p : Pieces) : Type 0 where
+  pub judges : judgeOf s slots room got p ≡ o
+  pub keeps : ahead w (got .entries) p ≡ v
+
+module _ (s : List ℕ) (slots room : ℕ) (got : Record) (w : List ℕ) (l at : ℕ) (f : Item) (e : restTree (versionOf l) (f .pc) (f .reps) (f .body) (f .run) tt ≡ layoutTree l) where
+  pub going-start : Going s slots room (judgeOf s slots room got (piecesOf l s at)) (ahead w (got .entries) (piecesOf l s at)) got w (toCome s (versionOf l) at (f .pc) (f .reps) (f .body) (f .run))
+  going-start = record { judges = ap (λ (t : Tree). judgeOf s slots room got (run t s at)) e; keeps = ap (λ (t : Tree). ahead w (got .entries) (run t s at)) e }
 
 module _ (s : List ℕ) (slots room : ℕ) (ver : Version) (at pc reps body x : ℕ) (f : Item) (law : restTree ver pc reps body x tt ≡ itemTree ver f)
-    (got : Record) (o : Result Ended) (inv : toJudge s slots room got ver at pc reps body x ≡ o) where
-  by-item : (t : Tree) → itemTree ver f ≡ t → judgeOf s slots room got (run t s at) ≡ o
-  by-item t e = sym (ap (λ (x : Tree). judgeOf s slots room got (run x s at)) (law ∙ e)) ∙ inv
+    (o : Result Ended) (v : List ℕ) (got : Record) (w : List ℕ) (g : Going s slots room o v got w (toCome s ver at pc reps body x)) where
+  by-item : (t : Tree) → itemTree ver f ≡ t → Going s slots room o v got w (run t s at)
+  by-item t e = subst (λ (y : Tree). Going s slots room o v got w (run y s at)) (law ∙ e) g
 
-  pub judge-end : f .kind ≡ 0 → answerAs (endedAs (ok (record { found = got; ends = at }))) ≡ answerAs (endedAs o)
-  unfolding run judgeOf
-  judge-end k = ap (λ (y : Result Ended). answerAs (endedAs y)) (by-item _ (end-item ver f k))
+  pub going-end : f .kind ≡ 0 → (answerAs (endedAs (ok (record { found = got; ends = at }))) ≡ answerAs (endedAs o)) × (w ≡ v)
+  unfolding run judgeOf entriesOf
+  going-end k =
+      let h = by-item _ (end-item ver f k) in
+      let n = 16 - 2 * (got .entries) in
+      (ap (λ (y : Result Ended). answerAs (endedAs y)) (h .judges), sym (ap (sets w (2 * got .entries)) (take-none n)) ∙ h .keeps)
 
-  pub judge-quiet : f .kind ≡ 16 → toJudge s slots room got ver at (f .pc) (f .reps) (f .body) (f .run) ≡ o
-  judge-quiet k = by-item _ (quiet-item ver f k)
+  pub going-quiet : f .kind ≡ 16 → Going s slots room o v got w (toCome s ver at (f .pc) (f .reps) (f .body) (f .run))
+  going-quiet k = by-item _ (quiet-item ver f k)
 
-  module _ (k : Fed) (h : (ver : Version) (y : Record) → y .entries ≡ got .entries → y .payload ≡ got .payload → judgeOf s slots room y (run (itemTree ver f) s at) ≡ fedTo s slots room ver y f k) where
-    by-fed : (y : Fed) → k ≡ y → fedTo s slots room ver got f y ≡ o
-    by-fed y q = sym (h ver got refl refl ∙ ap (fedTo s slots room ver got f) q) ∙ by-item _ refl
+  module _ (w' : List ℕ) (k : Fed) (h : Feeds s slots room at (got .entries) (got .payload) f w w' k) where
+    pub going-refused : (r : Refusal) (a : Answer) → k ≡ F.Refused r → a ≡ answerAs (refusedBy r) → a ≡ answerAs (endedAs o)
+    going-refused r a q e =
+        e ∙ ap (λ (y : Result Ended). answerAs (endedAs y)) (ap (fedTo s slots room ver got f) (sym q) ∙ sym (h .judges ver got refl refl) ∙ by-item _ refl .judges)
 
-    pub judge-stop : (which place : ℕ) (a : Answer) → k ≡ F.Refused which place → a ≡ answerAs (refused which place 0) → a ≡ answerAs (endedAs o)
-    judge-stop which place a q e = e ∙ ap (λ (y : Result Ended). answerAs (endedAs y)) (by-fed (F.Refused which place) q)
-
-    pub judge-on : (a n p r slot v : ℕ) → k ≡ F.Past a n p r slot v → (y : Record) → y ≡ noted (withPayload (withEntries got n) p) (slotOf slot) v
-        → toJudge s slots room y ver a (f .pc) r (f .body) (f .run) ≡ o
-    judge-on a n p r slot v q y e = ap (λ (z : Record). toJudge s slots room z ver a (f .pc) r (f .body) (f .run)) e ∙ by-fed (F.Past a n p r slot v) q
+    pub going-on : (a n p r slot x : ℕ) → k ≡ F.Past a n p r slot x → (y : Record) → y ≡ noted (withPayload (withEntries got n) p) (slotOf slot) x → y .entries ≡ n
+        → Going s slots room o v y w' (toCome s ver a (f .pc) r (f .body) (f .run))
+    going-on a n p r slot x q y e z =
+        let b : judgeOf s slots room y (toCome s ver a (f .pc) r (f .body) (f .run)) ≡ judgeOf s slots room got (run (itemTree ver f) s at) =
+        ap (λ (u : Record). judgeOf s slots room u (toCome s ver a (f .pc) r (f .body) (f .run))) e ∙ ap (fedTo s slots room ver got f) (sym q) ∙ sym (h .judges ver got refl refl) in
+        let c = subst (fedIn s w' (ahead w (got .entries) (run (itemTree ver f) s at)) ver f) q (h .keeps ver) in
+        record {
+          judges = b ∙ by-item _ refl .judges;
+          keeps = ap (λ (i : ℕ). ahead w' i (toCome s ver a (f .pc) r (f .body) (f .run))) z ∙ sym c ∙ by-item _ refl .keeps;
+        }
 
 -- ---- a number in its slot, written in place
 module _ (ns cs : List ℕ) (b : Bool) (slot v : ℕ) where

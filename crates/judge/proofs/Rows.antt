@@ -1,89 +1,125 @@
--- A row of strings, judged string by string: what is left of it, with the entries so far, is judged as the whole.
+-- A string, and a row of strings, one after the other: what is left, with the entries so far, is judged and kept as the whole.
 use Prim.Native.Nat.{ℕ, _+_, _≤_}
 use mathlib.Core.Path.{_≡_, refl, sym, _∙_, ap, subst}
 use mathlib.Core.List.{List}
 use native.Mathlib.Omega.{arith}
 use lib.ListN.{length}
 use Rattle.layouts.specs.declared.Record.{Record}
-use Rattle.layouts.specs.Primitive.{numberAt, Result, refused, onward}
-use Rattle.layouts.specs.Shape.{Role, Tree}
-use Rattle.layouts.specs.Pieces.{Text, whole, cut, textOf, afterText, run}
+use Rattle.layouts.specs.declared.Refusal.{Refusal}
+use Rattle.layouts.specs.Primitive.{numberAt, Result, onward}
+use Rattle.layouts.specs.Refusal.{refusedBy}
+use Rattle.layouts.specs.Shape.{Role, Tree, say}
+use Rattle.layouts.specs.Pieces.{Pieces, text, textOf, afterText, run}
 use Rattle.layouts.specs.Record.{withEntries}
 use Rattle.layouts.specs.Judge.{Ended, textTaken, halfTaken, judgeOf}
 use Rattle.pieces.specs.declared.Text as T
 use Rattle.pieces.specs.declared.Text.the-variants.{Whole, Half, Bad}
-use Rattle.pieces.specs.Pieces.{textRead}
-use Rattle.pieces.proofs.Found.{text-known}
+use Rattle.pieces.specs.Pieces.{textFound}
+use Rattle.pieces.proofs.Found.{textRead, bad-plain}
+use Rattle.pieces.proofs.Nodes.{say-as, whole-found}
 use Rattle.strings.specs.declared.More.{More}
 use Rattle.strings.specs.declared.More.the-variants as M
-use Rattle.strings.specs.Strings.{row, rowAfter}
-use Rattle.table.specs.Table.{roleOf}
+use Rattle.strings.specs.Strings.{row, rowAfter, afterNext}
+use Rattle.strings.proofs.Rows.{row-next}
 use Rattle.judge.specs.declared.Taken.{Taken}
 use Rattle.judge.specs.declared.Taken.the-variants as K
 use Rattle.judge.specs.declared.Row.{Row}
 use Rattle.judge.specs.declared.Row.the-variants as O
-use Rattle.judge.specs.Judged.{taken, rowTo}
+use Rattle.judge.specs.Judged.{ahead, taken, TakenIn, rowTo, rowIn, Takes, RowTook}
 
-module _ (s : List ℕ) (slots : ℕ) (m : Role) (e from p₀ l₀ n₀ : ℕ) where
-  abbrev Whole₀ : (room : ℕ) (k : Unit {0} → Tree) → Record → Result Ended
-  Whole₀ room k x = judgeOf s slots room x (run (row m p₀ e l₀ k) s from)
+-- ---- one string
+pub whole-took : (s : List ℕ) (at : ℕ) (t : T.Text) → t ≡ textFound (textOf (length s) (numberAt s at) at) → (start len next : ℕ) → t ≡ Whole start len next → (at + 8 ≤ next) × (at + 8 ≤ length s)
+whole-took s at t e start len next q = let g = whole-found s at t e start len next q in (g .0, omega (arith, g))
 
-  pub record Judging (at p l n : ℕ) : Type 0 where
+module _ (s : List ℕ) (slots at : ℕ) (m : Role) (w : List ℕ) (n : ℕ) (w' : List ℕ) (t : T.Text) (e : t ≡ textFound (textOf (length s) (numberAt s at) at)) where
+  abbrev OfText : Row → Type 0
+  OfText r = Takes s slots at (say m) w n w' r
+
+  says : (y : T.Text) → t ≡ y → (room : ℕ) (x : Record) (k : Unit {0} → Tree)
+      → judgeOf s slots room x (run (say m k) s at) ≡ judgeOf s slots room x (afterText (textRead y) m (λ a. run (k tt) s a))
+  says y q room x k = ap (judgeOf s slots room x) (say-as s at t e y q m k)
+
+  pub of-bad : (r : Refusal) → t ≡ Bad r → OfText (O.Refused r)
+  unfolding afterText judgeOf
+  of-bad r q = record { judges = λ room k x z. rw (bad-plain s at t e r q) (says (Bad r) q room x k); keeps = λ k. tt }
+
+  pub of-half : (start len : ℕ) (r : Refusal) → t ≡ Half start len → _≡_ {A = Result Ended} (refusedBy r) (halfTaken s m start len) → OfText (O.Refused r)
+  unfolding afterText judgeOf
+  of-half start len r q h = record { judges = λ room k x z. says (Half start len) q room x k ∙ sym h; keeps = λ k. tt }
+
+  module _ (start len next : ℕ) (q : t ≡ Whole start len next) (o : Taken)
+      (h : (x : Record) → x .entries ≡ n → taken (withEntries x) o ≡ textTaken s slots x m start len) where
+    took : (y : Taken) → o ≡ y → (room : ℕ) (k : Unit {0} → Tree) (x : Record) → x .entries ≡ n
+        → judgeOf s slots room x (run (say m k) s at) ≡ onward (taken (withEntries x) y) (λ x'. judgeOf s slots room x' (run (k tt) s next))
+    unfolding afterText judgeOf
+    took y i room k x z =
+        says (Whole start len next) q room x k ∙ ap (λ (u : Result Record). onward u (λ x'. judgeOf s slots room x' (run (k tt) s next))) (sym (h x z) ∙ ap (taken (withEntries x)) i)
+
+    whole-as : (k : Unit {0} → Tree) → run (say m k) s at ≡ text m start len (run (k tt) s next)
+    unfolding afterText
+    whole-as k = say-as s at t e (Whole start len next) q m k
+
+    pub of-refused : (r : Refusal) → o ≡ K.Refused r → OfText (O.Refused r)
+    of-refused r i = record { judges = λ room k x z. took (K.Refused r) i room k x z; keeps = λ k. tt }
+
+    pub of-whole : (n' : ℕ) → o ≡ K.Fine n' → TakenIn w n m start len w' o → OfText (O.Past next n')
+    of-whole n' i g =
+        let kept : (p : Pieces) → ahead w n (text m start len p) ≡ ahead w' n' p = subst (TakenIn w n m start len w') i g in
+        record { judges = λ room k x z. took (K.Fine n') i room k x z; keeps = λ k. ap (ahead w n) (whole-as k) ∙ kept (run (k tt) s next) }
+
+-- ---- a row of them
+pub row-took : (s : List ℕ) (at : ℕ) (r : Row) (at' n : ℕ) → RowTook s at r → r ≡ O.Past at' n → (at + 8 ≤ at') × (at + 8 ≤ length s)
+row-took s at r at' n o i = subst (RowTook s at) i o
+
+module _ (s : List ℕ) (slots : ℕ) (m : Role) (e from p₀ l₀ : ℕ) (w₀ : List ℕ) (n₀ : ℕ) where
+  abbrev whole : (Unit {0} → Tree) → Pieces
+  whole k = run (row m p₀ e l₀ k) s from
+
+  abbrev left : (at p l : ℕ) → (Unit {0} → Tree) → Pieces
+  left at p l k = run (row m p e l k) s at
+
+  pub record Rowing (w : List ℕ) (at p l n : ℕ) : Type 0 where
     pub on : from ≤ at
-    pub same : (room : ℕ) (k : Unit {0} → Tree) (x : Record) → x .entries ≡ n₀ → Whole₀ room k x ≡ judgeOf s slots room (withEntries x n) (run (row m p e l k) s at)
+    pub judges : (room : ℕ) (k : Unit {0} → Tree) (x : Record) → x .entries ≡ n₀ → judgeOf s slots room x (whole k) ≡ judgeOf s slots room (withEntries x n) (left at p l k)
+    pub keeps : (k : Unit {0} → Tree) → ahead w₀ n₀ (whole k) ≡ ahead w n (left at p l k)
 
-  pub judging-start : Judging from p₀ l₀ n₀
-  judging-start =
-      record { on = omega arith; same = λ room k x z. ap (λ (n : ℕ). judgeOf s slots room (withEntries x n) (run (row m p₀ e l₀ k) s from)) z }
+  abbrev OfRow : List ℕ → Row → Type 0
+  OfRow w r = Takes s slots from (row m p₀ e l₀) w₀ n₀ w r
 
-  module _ (at p l n : ℕ) (g : Judging at p l n) (y : More) (h : (m : Role) (k : Unit {0} → Tree) → row m p e l k ≡ rowAfter m e k y) where
-    pub judging-end : y ≡ M.None → (room : ℕ) (k : Unit {0} → Tree) (x : Record) → x .entries ≡ n₀ → Whole₀ room k x ≡ judgeOf s slots room (withEntries x n) (run (k tt) s at)
-    judging-end q room k x z = g .same room k x z ∙ ap (λ (t : Tree). judgeOf s slots room (withEntries x n) (run t s at)) (h m k ∙ ap (rowAfter m e k) q)
+  pub rowing-start : Rowing w₀ from p₀ l₀ n₀
+  rowing-start = record { on = omega arith; judges = λ room k x z. ap (λ (n : ℕ). judgeOf s slots room (withEntries x n) (whole k)) z; keeps = λ k. refl }
 
-    module _ (p' l' : ℕ) (q : y ≡ M.String p' l') (r : T.Text) (t : textRead r ≡ textOf (length s) (numberAt s at) at) where
-      there : (v : T.Text) → r ≡ v → (room : ℕ) (k : Unit {0} → Tree) (x : Record) → x .entries ≡ n₀
-          → Whole₀ room k x ≡ judgeOf s slots room (withEntries x n) (afterText (textRead v) m (λ a. run (row m p' e l' k) s a))
-      unfolding run
-      there v f room k x z =
-          g .same room k x z ∙ ap (λ (u : Tree). judgeOf s slots room (withEntries x n) (run u s at)) (h m k ∙ ap (rowAfter m e k) q) ∙
-          ap (λ (u : Text). judgeOf s slots room (withEntries x n) (afterText u m (λ a. run (row m p' e l' k) s a))) (sym t ∙ ap textRead f)
+  module _ (w : List ℕ) (at p l n : ℕ) (g : Rowing w at p l n) (y : More) (h : y ≡ afterNext p e l) where
+    left-as : (v : More) → y ≡ v → (k : Unit {0} → Tree) → left at p l k ≡ run (rowAfter m e k v) s at
+    left-as v q k = ap (λ (t : Tree). run t s at) (row-next m e k p l y h ∙ ap (rowAfter m e k) q)
 
-      pub judging-bad : (which place : ℕ) → r ≡ Bad which place → (room : ℕ) (k : Unit {0} → Tree) (x : Record) → x .entries ≡ n₀ → Whole₀ room k x ≡ refused which place 0
-      unfolding afterText judgeOf
-      judging-bad which place f room k x z = there (Bad which place) f room k x z
+    pub rowing-end : y ≡ M.None → OfRow w (O.Past at n)
+    rowing-end q =
+        record {
+          judges = λ room k x z. g .judges room k x z ∙ ap (judgeOf s slots room (withEntries x n)) (left-as M.None q k);
+          keeps = λ k. g .keeps k ∙ ap (ahead w n) (left-as M.None q k);
+        }
 
-      module _ (start len : ℕ) (f : r ≡ Half start len) where
-        pub half-within : start + len ≤ length s
-        half-within = text-known (length s) (numberAt s at) at (cut start len) (sym (ap textRead f) ∙ t) .2
+    module _ (p' l' : ℕ) (q : y ≡ M.String p' l') (w' : List ℕ) (r : Row) (t : Takes s slots at (say m) w n w' r) where
+      judged : (v : Row) → r ≡ v → (room : ℕ) (k : Unit {0} → Tree) (x : Record) → x .entries ≡ n₀
+          → judgeOf s slots room x (whole k) ≡ rowTo s slots room (withEntries x n) (λ u. row m p' e l' k) v
+      judged v i room k x z =
+          g .judges room k x z ∙ ap (judgeOf s slots room (withEntries x n)) (left-as (M.String p' l') q k)
+          ∙ t .judges room (λ u. row m p' e l' k) (withEntries x n) refl ∙ ap (rowTo s slots room (withEntries x n) (λ u. row m p' e l' k)) i
 
-        pub judging-half : (o : Row) → ((slots room : ℕ) (x : Record) (k : Unit {0} → Tree) → rowTo s slots room x k o ≡ halfTaken s m start len)
-            → (room : ℕ) (k : Unit {0} → Tree) (x : Record) → x .entries ≡ n₀ → Whole₀ room k x ≡ rowTo s slots room x k o
-        unfolding afterText judgeOf
-        judging-half o w room k x z = there (Half start len) f room k x z ∙ sym (w slots room x k)
+      pub rowing-refused : (x : Refusal) → r ≡ O.Refused x → OfRow w' (O.Refused x)
+      rowing-refused x i = record { judges = λ room k y z. judged (O.Refused x) i room k y z; keeps = λ k. tt }
 
-      module _ (start len next : ℕ) (f : r ≡ Whole start len next) where
-        whole-says : (start ≡ at + 8) × (len ≡ numberAt s at) × (start + len ≤ next) × (next ≤ length s)
-        whole-says = text-known (length s) (numberAt s at) at (whole start len next) (sym (ap textRead f) ∙ t)
+      module _ (at' n' : ℕ) (i : r ≡ O.Past at' n') (o : RowTook s at r) where
+        kept : (k : Unit {0} → Tree) → ahead w n (run (say m (λ u. row m p' e l' k)) s at) ≡ ahead w' n' (left at' p' l' k)
+        kept k = subst (rowIn s w' (ahead w n (run (say m (λ u. row m p' e l' k)) s at)) (λ u. row m p' e l' k)) i (t .keeps (λ u. row m p' e l' k))
 
-        pub whole-within : start + len ≤ length s
-        whole-within = let w = whole-says in omega (arith, w)
-
-        pub whole-on : (at + 8 ≤ next) × (next ≤ length s)
-        whole-on = let w = whole-says in (omega (arith, w), w .3)
-
-        module _ (o : Taken) (w : (x : Record) → x .entries ≡ n → taken (withEntries x) o ≡ textTaken s slots x m start len) where
-          took : (v : Taken) → o ≡ v → (room : ℕ) (k : Unit {0} → Tree) (x : Record) → x .entries ≡ n₀
-              → Whole₀ room k x ≡ onward (taken (withEntries x) v) (λ x'. judgeOf s slots room x' (run (row m p' e l' k) s next))
-          unfolding afterText judgeOf
-          took v i room k x z =
-              there (Whole start len next) f room k x z ∙
-              ap (λ (u : Result Record). onward u (λ x'. judgeOf s slots room x' (run (row m p' e l' k) s next))) (sym (w (withEntries x n) refl) ∙ ap (taken (withEntries x)) i)
-
-          pub judging-stop : (which place : ℕ) → o ≡ K.Refused which place → (room : ℕ) (k : Unit {0} → Tree) (x : Record) → x .entries ≡ n₀ → Whole₀ room k x ≡ refused which place 0
-          judging-stop which place i room k x z = took (K.Refused which place) i room k x z
-
-          pub judging-on : (n' : ℕ) → o ≡ K.Fine n' → Judging next p' l' n'
-          judging-on n' i =
-              let a = whole-on in
-              let b = g .on in
-              record { on = omega (arith, a); same = λ room k x z. took (K.Fine n') i room k x z }
+        pub rowing-on : Rowing w' at' p' l' n'
+        rowing-on =
+            let a = row-took s at r at' n' o i in
+            let b = g .on in
+            record {
+              on = omega (arith, a);
+              judges = λ room k x z. judged (O.Past at' n') i room k x z;
+              keeps = λ k. g .keeps k ∙ ap (ahead w n) (left-as (M.String p' l') q k) ∙ kept k;
+            }

@@ -1,19 +1,21 @@
 -- What `layouts` says, as the code answers it.
-use Prim.Native.Nat.{ℕ, _+_, _≤_}
+use Prim.Native.Nat.{ℕ, _+_, _-_, _*_, _≤_}
 use mathlib.Core.Path.{_≡_}
-use lib.ListN.{length}
+use lib.ListN.{length, take, replicate}
+use lib.Seq.{sets}
 use mathlib.Core.List.{List}
 use mathlib.Core.Bool.{Bool, false}
 use Rattle.layouts.specs.declared.Record.{Record}
 use Rattle.layouts.specs.Primitive.{Version, Result, ok, refused, onward}
+use Rattle.layouts.specs.Refusal.{refusal, refusedBy}
 use Rattle.layouts.specs.Record.{blank, withEntries, withPayload, noted}
-use Rattle.layouts.specs.Judge.{Ended, judgeOf}
-use Rattle.layouts.specs.Shape.{Tree}
-use Rattle.layouts.specs.Pieces.{run}
+use Rattle.layouts.specs.Judge.{Ended, judgeOf, entriesOf}
+use Rattle.layouts.specs.Shape.{Role, Tree, frames}
+use Rattle.layouts.specs.Pieces.{Pieces, text, run}
 use Rattle.layouts.specs.Calls as L
 use Rattle.table.specs.Table.{slotOf}
 use Rattle.items.specs.declared.Item.{Item}
-use Rattle.items.specs.Items.{onto}
+use Rattle.items.specs.Items.{onto, itemTree}
 use Rattle.judge.specs.declared.Outcome.the-variants.{Fine, Refused}
 use Rattle.judge.specs.declared.Said.{Said}
 use Rattle.judge.specs.declared.Said.the-variants as S
@@ -31,49 +33,85 @@ gathered ns cs b n p = record { numbers = ns; counts = cs; present = b; entries 
 
 abbrev pub answerOf : Said → (numbers counts : List ℕ) → Answer
 answerOf (S.Fine kind ends ends2 n p b) ns cs = record { outcome = Fine; kind = kind; ends = ends; ends2 = ends2; found = gathered ns cs b n p }
-answerOf (S.Refused which place stream) ns cs = record { outcome = Refused which place stream; kind = 0; ends = 0; ends2 = 0; found = gathered ns cs false 0 0 }
+answerOf (S.Refused r) ns cs = record { outcome = Refused r; kind = 0; ends = 0; ends2 = 0; found = gathered ns cs false 0 0 }
 
 -- a refusal says only number, place and stream
 abbrev pub answerAs : Result L.Answer → Answer
 answerAs (ok x) = record { outcome = Fine; kind = x .kind; ends = x .ends; ends2 = x .ends2; found = x .found }
-answerAs (refused which place stream) = record { outcome = Refused which place stream; kind = 0; ends = 0; ends2 = 0; found = blank }
+answerAs (refused which place stream) = record { outcome = Refused (refusal which place stream); kind = 0; ends = 0; ends2 = 0; found = blank }
 
 abbrev pub endedAs : Result Ended → Result L.Answer
 endedAs o = onward o (λ e. ok (record { kind = 0; ends = e .ends; ends2 = 0; found = e .found }))
 
--- the record after one piece
+-- ---- the window of 16 numbers: entries from slot n on, as many as it has room for; on a refusal it is empty
+abbrev pub inWindow : (window : List ℕ) → (n : ℕ) → (entries : List ℕ) → List ℕ
+inWindow w n es = sets w (2 * n) (take (16 - 2 * n) es)
+
+abbrev pub windowAfter : Said → (window : List ℕ) → (n : ℕ) → (entries : List ℕ) → List ℕ
+windowAfter (S.Fine kind ends ends2 m p b) w n es = inWindow w n es
+windowAfter (S.Refused r) w n es = replicate 16 0
+
+-- the entries of p are to come
+abbrev pub ahead : (window : List ℕ) → (n : ℕ) → Pieces → List ℕ
+ahead w n p = inWindow w n (entriesOf p)
+
+-- ---- a string or a chunk: the record after it, and the window
 abbrev pub taken : (ℕ → Record) → Taken → Result Record
 taken with (T.Fine n) = ok (with n)
-taken with (T.Refused which place) = refused which place 0
+taken with (T.Refused r) = refusedBy r
 
--- judging past a row of strings: to what follows it, with the entries then
+abbrev pub TakenIn : (window : List ℕ) → (n : ℕ) → Role → (start len : ℕ) → (after : List ℕ) → Taken → Type 0
+TakenIn w n m start len w' (T.Fine n') = (p : Pieces) → ahead w n (text m start len p) ≡ ahead w' n' p
+TakenIn w n m start len w' (T.Refused r) = Unit {0}
+
+-- ---- t puts something before a rest: with n entries before it, the whole is judged as what follows it, with the entries then
 abbrev pub rowTo : List ℕ → (slots room : ℕ) → Record → (Unit {0} → Tree) → Row → Result Ended
 rowTo s slots room x k (O.Past at n) = judgeOf s slots room (withEntries x n) (run (k tt) s at)
-rowTo s slots room x k (O.Refused which place) = refused which place 0
+rowTo s slots room x k (O.Refused r) = refusedBy r
+
+abbrev pub rowIn : List ℕ → (window : List ℕ) → (whole : List ℕ) → (Unit {0} → Tree) → Row → Type 0
+rowIn s w es k (O.Past at n) = es ≡ ahead w n (run (k tt) s at)
+rowIn s w es k (O.Refused r) = Unit {0}
+
+pub record Takes (s : List ℕ) (slots at : ℕ) (t : (Unit {0} → Tree) → Tree) (w : List ℕ) (n : ℕ) (w' : List ℕ) (r : Row) : Type 0 where
+  pub judges : (room : ℕ) (k : Unit {0} → Tree) (x : Record) → x .entries ≡ n → judgeOf s slots room x (run (t k) s at) ≡ rowTo s slots room x k r
+  pub keeps : (k : Unit {0} → Tree) → rowIn s w' (ahead w n (run (t k) s at)) k r
 
 abbrev pub RowFrom : (from : ℕ) → Row → Type 0
 RowFrom from (O.Past at n) = from ≤ at
-RowFrom from (O.Refused which place) = Unit {0}
-
--- t puts something before a rest: with n entries before it, the whole is judged as what follows it, with the entries then
-abbrev pub Judges : List ℕ → (slots at : ℕ) → ((Unit {0} → Tree) → Tree) → (n : ℕ) → Row → Type 0
-Judges s slots at t n r = (room : ℕ) (k : Unit {0} → Tree) (x : Record) → x .entries ≡ n → judgeOf s slots room x (run (t k) s at) ≡ rowTo s slots room x k r
+RowFrom from (O.Refused r) = Unit {0}
 
 -- at least a number was there, and is passed
 abbrev pub RowTook : List ℕ → (at : ℕ) → Row → Type 0
 RowTook s at (O.Past a n) = (at + 8 ≤ a) × (at + 8 ≤ length s)
-RowTook s at (O.Refused which place) = Unit {0}
+RowTook s at (O.Refused r) = Unit {0}
 
--- the same of chunks, with the payload then
+-- ---- the same of chunks, with the payload then
 abbrev pub framesTo : List ℕ → (slots room : ℕ) → Record → (Unit {0} → Tree) → Row → Result Ended
 framesTo s slots room x k (O.Past at n) = judgeOf s slots room (withPayload x n) (run (k tt) s at)
-framesTo s slots room x k (O.Refused which place) = refused which place 0
+framesTo s slots room x k (O.Refused r) = refusedBy r
 
--- and of an item: what follows it is judged with the entries and the payload then, and with a number in its slot
+abbrev pub framesIn : List ℕ → (whole : List ℕ) → (Unit {0} → Tree) → Row → Type 0
+framesIn s es k (O.Past at n) = es ≡ entriesOf (run (k tt) s at)
+framesIn s es k (O.Refused r) = Unit {0}
+
+pub record TakesFrames (s : List ℕ) (room at n : ℕ) (r : Row) : Type 0 where
+  pub judges : (slots : ℕ) (k : Unit {0} → Tree) (x : Record) → x .payload ≡ n → judgeOf s slots room x (run (frames k) s at) ≡ framesTo s slots room x k r
+  pub keeps : (k : Unit {0} → Tree) → framesIn s (entriesOf (run (frames k) s at)) k r
+
+-- ---- and of an item: what follows it is judged with the entries and the payload then, and with a number in its slot
 abbrev pub fedTo : List ℕ → (slots room : ℕ) → Version → Record → Item → Fed → Result Ended
 fedTo s slots room ver x f (F.Past at n p reps slot v) = judgeOf s slots room (noted (withPayload (withEntries x n) p) (slotOf slot) v) (run (onto ver f reps tt) s at)
-fedTo s slots room ver x f (F.Refused which place) = refused which place 0
+fedTo s slots room ver x f (F.Refused r) = refusedBy r
+
+abbrev pub fedIn : List ℕ → (window : List ℕ) → (whole : List ℕ) → Version → Item → Fed → Type 0
+fedIn s w es ver f (F.Past at n p reps slot v) = es ≡ ahead w n (run (onto ver f reps tt) s at)
+fedIn s w es ver f (F.Refused r) = Unit {0}
+
+pub record Feeds (s : List ℕ) (slots room at n p : ℕ) (f : Item) (w w' : List ℕ) (r : Fed) : Type 0 where
+  pub judges : (ver : Version) (x : Record) → x .entries ≡ n → x .payload ≡ p → judgeOf s slots room x (run (itemTree ver f) s at) ≡ fedTo s slots room ver x f r
+  pub keeps : (ver : Version) → fedIn s w' (ahead w n (run (itemTree ver f) s at)) ver f r
 
 abbrev pub FedTook : List ℕ → (at : ℕ) → Fed → Type 0
 FedTook s at (F.Past a n p reps slot v) = (at + 8 ≤ a) × (at + 8 ≤ length s)
-FedTook s at (F.Refused which place) = Unit {0}
+FedTook s at (F.Refused r) = Unit {0}

@@ -3,33 +3,33 @@
 ghost use mathlib.Core.Path.{_≡_};
 ghost use Prim.Native.Nat.{ℕ, _+_, _-_, _≤_};
 ghost use lib.ListN.{length};
-ghost use mathlib.Core.Bool.{false};
-ghost use Rattle.layouts.specs.Primitive.{Version, refused};
+ghost use mathlib.Core.List.{List, _∷_};
+ghost use Rattle.layouts.specs.Primitive.{Result};
+ghost use Rattle.layouts.specs.Refusal.{refusedBy};
 ghost use Rattle.layouts.specs.declared.Record.{Record};
-ghost use Rattle.layouts.specs.Shape.{truth, Tree, ask, say, frames, dropped};
-ghost use Rattle.layouts.specs.Pieces.{run};
+ghost use Rattle.layouts.specs.Shape.{truth, ask, say, dropped};
 ghost use Rattle.layouts.specs.Record.{blank, withEntries, withPayload, noted};
-ghost use Rattle.layouts.specs.Judge.{notText, textTaken, halfTaken, chunkTaken, judgeOf};
+ghost use Rattle.layouts.specs.Judge.{Ended, notText, textTaken, halfTaken, chunkTaken, judgeOf, entriesOf};
 ghost use Rattle.table.specs.Table.{roleOf, slotOf};
-ghost use Rattle.judge.specs.Judged.{gathered, answerOf, answerAs, endedAs, taken, rowTo, RowFrom, Judges, RowTook, framesTo, fedTo, FedTook};
+ghost use Rattle.judge.specs.declared.Said.the-variants as S;
+ghost use Rattle.judge.specs.Judged.{gathered, answerOf, answerAs, endedAs, inWindow, taken, TakenIn, Takes, RowFrom, RowTook, TakesFrames, Feeds, FedTook, windowAfter};
 ghost use Rattle.strings.specs.Strings.{row};
-ghost use Rattle.items.specs.Items.{piecesOf, itemTree, slotFor, afterNumber};
+ghost use Rattle.items.specs.Items.{piecesOf, slotFor, afterNumber};
 use items::Item;
 use items::Layout;
 use layouts::Record;
+use layouts::Refusal;
 use number::Number;
 use pieces::Chunk;
 use pieces::Text;
 use strings::More;
 
-// The stream is 1 for the daemon's of a handshake and else 0.
+// How many entries a window holds, two numbers each: few calls keep more strings, and who fills in needs no second fold where they fit.
+pub const WINDOW: usize = 8;
+
 pub enum Outcome {
     Fine,
-    Refused {
-        which: u64,
-        place: usize,
-        stream: u64,
-    },
+    Refused(Refusal),
 }
 
 // What a call answers: its kind, where it ended on the stream (a handshake on both), and the record. On a refusal all but the outcome is blank.
@@ -51,23 +51,19 @@ pub enum Said {
         payload: usize,
         present: bool,
     },
-    Refused {
-        which: u64,
-        place: usize,
-        stream: u64,
-    },
+    Refused(Refusal),
 }
 
 // What a string or chunk makes of the entries, or of the payload, so far.
 enum Taken {
     Fine(usize),
-    Refused { which: u64, place: usize },
+    Refused(Refusal),
 }
 
 // Where a row of strings ends, and the entries then; or its first refusal.
 enum Row {
     Past { at: usize, entries: usize },
-    Refused { which: u64, place: usize },
+    Refused(Refusal),
 }
 
 // What an item makes of the state: where it ends, the entries and the payload then, how often the body comes again, and a number with its slot.
@@ -80,10 +76,7 @@ enum Fed {
         slot: usize,
         value: u64,
     },
-    Refused {
-        which: u64,
-        place: usize,
-    },
+    Refused(Refusal),
 }
 
 pub fn empty() -> Record
@@ -98,16 +91,12 @@ pub fn empty() -> Record
     }
 }
 
-// A refusal as a whole answer, of a stream that is not a handshake's.
-pub fn refused_answer(which: u64, place: usize) -> Answer
-    ensures { λ r. ⌜ r ≡ answerAs (refused which place 0) ⌝ }
+// A refusal as a whole answer.
+pub fn refused_answer(refusal: Refusal) -> Answer
+    ensures { λ r. ⌜ r ≡ answerAs (refusedBy refusal) ⌝ }
 {
     Answer {
-        outcome: Outcome::Refused {
-            which,
-            place,
-            stream: 0,
-        },
+        outcome: Outcome::Refused(refusal),
         kind: 0,
         ends: 0,
         ends2: 0,
@@ -146,45 +135,53 @@ fn is_bad(s: &[u8], role: u8, start: usize, len: usize) -> bool
     !text::is_text(&s[start..end])
 }
 
+// The entry of a string with n entries before it, as far as the window goes.
+fn keep(window: &mut [u64; 16], n: usize, start: usize, len: usize)
+    ensures { λ r. ⌜ ((es : List ℕ) → inWindow (now (window .entry)) n (start ∷ len ∷ es) ≡ inWindow (now (window .exit)) (n + 1) es) ⌝ }
+{
+    if n < WINDOW {
+        window[2 * n] = start as u64;
+        window[2 * n + 1] = len as u64;
+        return;
+    }
+}
+
 // A whole string, with n entries before it: 3, then 4, or the entries with the string counted where it is kept.
-fn take_text(s: &[u8], slots: usize, n: usize, role: u8, start: usize, len: usize) -> Taken
+fn take_text(
+    s: &[u8],
+    slots: usize,
+    n: usize,
+    role: u8,
+    start: usize,
+    len: usize,
+    window: &mut [u64; 16],
+) -> Taken
     requires { ⌜ start + len ≤ length (now s) ⌝ }
-    ensures { λ o. ⌜ ((r : Record) → r .entries ≡ n → taken (withEntries r) o ≡ textTaken (now (s .entry)) slots r (roleOf role) start len) ⌝ }
+    ensures law { λ o. ⌜ ((r : Record) → r .entries ≡ n → taken (withEntries r) o ≡ textTaken (now (s .entry)) slots r (roleOf role) start len) ⌝ }
+    ensures window { λ o. ⌜ TakenIn (now (window .entry)) n (roleOf role) start len (now (window .exit)) o ⌝ }
 {
     if is_bad(s, role, start, len) {
-        return Taken::Refused {
-            which: layouts::BAD_TEXT,
-            place: start,
-        };
+        return Taken::Refused(layouts::refuse(layouts::BAD_TEXT, start));
     }
     if role < table::KEPT {
         return Taken::Fine(n);
     }
     if slots <= n {
-        return Taken::Refused {
-            which: layouts::NO_ENTRY_ROOM,
-            place: place_of(start),
-        };
+        return Taken::Refused(layouts::refuse(layouts::NO_ENTRY_ROOM, place_of(start)));
     }
+    keep(window, n, start, len);
     Taken::Fine(n + 1)
 }
 
-// A string whose padding is cut short: 3, else 1.
-fn half_row(s: &[u8], role: u8, start: usize, len: usize) -> Row
+// A string whose contents are whole and whose padding is cut short: 3, then 1.
+fn half_row(s: &[u8], role: u8, start: usize, len: usize) -> Refusal
     requires { ⌜ start + len ≤ length (now s) ⌝ }
-    ensures law { λ o. ⌜ ((slots room : ℕ) (x : Record) (k : Unit {0} → Tree) → rowTo (now (s .entry)) slots room x k o ≡ halfTaken (now (s .entry)) (roleOf role) start len) ⌝ }
-    ensures on { λ o. ⌜ ((from : ℕ) → RowFrom from o) ⌝ }
+    ensures { λ r. ⌜ _≡_ {A = Result Ended} (refusedBy r) (halfTaken (now (s .entry)) (roleOf role) start len) ⌝ }
 {
     if is_bad(s, role, start, len) {
-        return Row::Refused {
-            which: layouts::BAD_TEXT,
-            place: start,
-        };
+        return layouts::refuse(layouts::BAD_TEXT, start);
     }
-    Row::Refused {
-        which: layouts::CUT_SHORT,
-        place: start + len,
-    }
+    layouts::refuse(layouts::CUT_SHORT, start + len)
 }
 
 // A row of strings, with n entries before it: where it ends, and the entries then.
@@ -197,8 +194,9 @@ fn judge_row(
     left: u64,
     slots: usize,
     n: usize,
+    window: &mut [u64; 16],
 ) -> Row
-    ensures law { λ r. ⌜ ((room : ℕ) (k : Unit {0} → Tree) (x : Record) → x .entries ≡ n → judgeOf (now (s .entry)) slots room x (run (row (roleOf role) pend extra left k) (now (s .entry)) from) ≡ rowTo (now (s .entry)) slots room x k r) ⌝ }
+    ensures law { λ r. ⌜ Takes (now (s .entry)) slots from (row (roleOf role) pend extra left) (now (window .entry)) n (now (window .exit)) r ⌝ }
     ensures on { λ r. ⌜ RowFrom from r ⌝ }
 {
     let mut at = from;
@@ -212,27 +210,19 @@ fn judge_row(
                 return Row::Past { at, entries };
             }
             More::String { pend, left } => {
-                let t = pieces::text_at(s, at);
+                let t = judge_text(s, at, role, slots, entries, window);
                 match t {
-                    Text::Bad { which, place } => {
-                        return Row::Refused { which, place };
+                    Row::Refused(r) => {
+                        return Row::Refused(r);
                     }
-                    Text::Half { start, len } => {
-                        return half_row(s, role, start, len);
-                    }
-                    Text::Whole { start, len, next } => {
-                        let f = take_text(s, slots, entries, role, start, len);
-                        match f {
-                            Taken::Refused { which, place } => {
-                                return Row::Refused { which, place };
-                            }
-                            Taken::Fine(more) => {
-                                at = next;
-                                p = pend;
-                                l = left;
-                                entries = more;
-                            }
-                        }
+                    Row::Past {
+                        at: next,
+                        entries: more,
+                    } => {
+                        at = next;
+                        p = pend;
+                        l = left;
+                        entries = more;
                     }
                 }
             }
@@ -241,18 +231,18 @@ fn judge_row(
 }
 
 // One string.
-fn judge_text(s: &[u8], at: usize, role: u8, slots: usize, n: usize) -> Row
-    ensures law { λ r. ⌜ Judges (now (s .entry)) slots at (say (roleOf role)) n r ⌝ }
+fn judge_text(s: &[u8], at: usize, role: u8, slots: usize, n: usize, window: &mut [u64; 16]) -> Row
+    ensures law { λ r. ⌜ Takes (now (s .entry)) slots at (say (roleOf role)) (now (window .entry)) n (now (window .exit)) r ⌝ }
     ensures on { λ r. ⌜ RowTook (now (s .entry)) at r ⌝ }
 {
     let t = pieces::text_at(s, at);
     match t {
-        Text::Bad { which, place } => Row::Refused { which, place },
-        Text::Half { start, len } => half_row(s, role, start, len),
+        Text::Bad(r) => Row::Refused(r),
+        Text::Half { start, len } => Row::Refused(half_row(s, role, start, len)),
         Text::Whole { start, len, next } => {
-            let f = take_text(s, slots, n, role, start, len);
+            let f = take_text(s, slots, n, role, start, len, window);
             match f {
-                Taken::Refused { which, place } => Row::Refused { which, place },
+                Taken::Refused(r) => Row::Refused(r),
                 Taken::Fine(entries) => Row::Past { at: next, entries },
             }
         }
@@ -261,15 +251,12 @@ fn judge_text(s: &[u8], at: usize, role: u8, slots: usize, n: usize) -> Row
 
 // A number that is dropped.
 fn drop_number(s: &[u8], at: usize, n: usize) -> Row
-    ensures law { λ r. ⌜ ((slots : ℕ) → Judges (now (s .entry)) slots at (λ k. ask dropped (λ v. k tt)) n r) ⌝ }
+    ensures law { λ r. ⌜ ((slots : ℕ) (w : List ℕ) → Takes (now (s .entry)) slots at (λ k. ask dropped (λ v. k tt)) w n w r) ⌝ }
     ensures on { λ r. ⌜ RowTook (now (s .entry)) at r ⌝ }
 {
     let m = pieces::number_at(s, at);
     match m {
-        Number::Short => Row::Refused {
-            which: layouts::CUT_SHORT,
-            place: at,
-        },
+        Number::Short => Row::Refused(layouts::refuse(layouts::CUT_SHORT, at)),
         Number::Value(_) => Row::Past {
             at: at + 8,
             entries: n,
@@ -278,15 +265,24 @@ fn drop_number(s: &[u8], at: usize, n: usize) -> Row
 }
 
 // What follows the number of a field.
-fn judge_after(s: &[u8], at: usize, kind: u8, role: u8, x: u64, slots: usize, n: usize) -> Row
-    ensures law { λ r. ⌜ Judges (now (s .entry)) slots at (afterNumber kind role x) n r ⌝ }
+fn judge_after(
+    s: &[u8],
+    at: usize,
+    kind: u8,
+    role: u8,
+    x: u64,
+    slots: usize,
+    n: usize,
+    window: &mut [u64; 16],
+) -> Row
+    ensures law { λ r. ⌜ Takes (now (s .entry)) slots at (afterNumber kind role x) (now (window .entry)) n (now (window .exit)) r ⌝ }
     ensures on { λ r. ⌜ RowFrom at r ⌝ }
 {
     if kind == table::SET {
-        return judge_row(s, at, role, 0, 0, x, slots, n);
+        return judge_row(s, at, role, 0, 0, x, slots, n, window);
     }
     if kind == table::PAIRS {
-        return judge_row(s, at, role, 0, 1, x, slots, n);
+        return judge_row(s, at, role, 0, 1, x, slots, n, window);
     }
     if kind == table::MAYBE {
         if x == 0 {
@@ -298,7 +294,7 @@ fn judge_after(s: &[u8], at: usize, kind: u8, role: u8, x: u64, slots: usize, n:
         if x == 0 {
             return drop_number(s, at, n);
         }
-        return judge_text(s, at, table::PASSED, slots, n);
+        return judge_text(s, at, table::PASSED, slots, n, window);
     }
     Row::Past { at, entries: n }
 }
@@ -309,23 +305,17 @@ fn take_chunk(room: usize, n: usize, start: usize, len: usize) -> Taken
 {
     let place = place_of(start);
     if room < n {
-        return Taken::Refused {
-            which: layouts::NO_PAYLOAD_ROOM,
-            place,
-        };
+        return Taken::Refused(layouts::refuse(layouts::NO_PAYLOAD_ROOM, place));
     }
     if room - n < len {
-        return Taken::Refused {
-            which: layouts::NO_PAYLOAD_ROOM,
-            place,
-        };
+        return Taken::Refused(layouts::refuse(layouts::NO_PAYLOAD_ROOM, place));
     }
     Taken::Fine(n + len)
 }
 
 // Chunks up to the empty one, with n bytes of payload before them: where they end, and the bytes then.
 fn judge_frames(s: &[u8], from: usize, room: usize, n: usize) -> Row
-    ensures law { λ r. ⌜ ((slots : ℕ) (k : Unit {0} → Tree) (x : Record) → x .payload ≡ n → judgeOf (now (s .entry)) slots room x (run (frames k) (now (s .entry)) from) ≡ framesTo (now (s .entry)) slots room x k r) ⌝ }
+    ensures law { λ r. ⌜ TakesFrames (now (s .entry)) room from n r ⌝ }
     ensures on { λ r. ⌜ RowTook (now (s .entry)) from r ⌝ }
 {
     let mut at = from;
@@ -333,8 +323,8 @@ fn judge_frames(s: &[u8], from: usize, room: usize, n: usize) -> Row
     loop {
         let m = pieces::chunk_at(s, at);
         match m {
-            Chunk::Wrong { which, place } => {
-                return Row::Refused { which, place };
+            Chunk::Wrong(r) => {
+                return Row::Refused(r);
             }
             Chunk::Last(next) => {
                 return Row::Past {
@@ -345,8 +335,8 @@ fn judge_frames(s: &[u8], from: usize, room: usize, n: usize) -> Row
             Chunk::Part { start, len, next } => {
                 let t = take_chunk(room, total, start, len);
                 match t {
-                    Taken::Refused { which, place } => {
-                        return Row::Refused { which, place };
+                    Taken::Refused(r) => {
+                        return Row::Refused(r);
                     }
                     Taken::Fine(more) => {
                         at = next;
@@ -372,17 +362,22 @@ fn slot_for(kind: u8, slot: u8) -> u8
 }
 
 // An item that begins with a number.
-fn feed_number(s: &[u8], at: usize, f: Item, slots: usize, n: usize, p: usize) -> Fed
+fn feed_number(
+    s: &[u8],
+    at: usize,
+    f: Item,
+    slots: usize,
+    n: usize,
+    p: usize,
+    window: &mut [u64; 16],
+) -> Fed
     requires { ⌜ (f .kind ≡ 0 → ⊥) × (f .kind ≡ 16 → ⊥) × (f .kind ≡ 2 → ⊥) × (f .kind ≡ 5 → ⊥) ⌝ }
-    ensures law { λ r. ⌜ ((room : ℕ) (ver : Version) (x : Record) → x .entries ≡ n → x .payload ≡ p → judgeOf (now (s .entry)) slots room x (run (itemTree ver f) (now (s .entry)) at) ≡ fedTo (now (s .entry)) slots room ver x f r) ⌝ }
+    ensures law { λ r. ⌜ ((room : ℕ) → Feeds (now (s .entry)) slots room at n p f (now (window .entry)) (now (window .exit)) r) ⌝ }
     ensures on { λ r. ⌜ FedTook (now (s .entry)) at r ⌝ }
 {
     let m = pieces::number_at(s, at);
     match m {
-        Number::Short => Fed::Refused {
-            which: layouts::CUT_SHORT,
-            place: at,
-        },
+        Number::Short => Fed::Refused(layouts::refuse(layouts::CUT_SHORT, at)),
         Number::Value(x) => {
             let kind = f.kind;
             let on = at + 8;
@@ -398,9 +393,9 @@ fn feed_number(s: &[u8], at: usize, f: Item, slots: usize, n: usize, p: usize) -
                 };
             }
             let slot = slot_for(kind, f.slot);
-            let k = judge_after(s, on, kind, f.role, x, slots, n);
+            let k = judge_after(s, on, kind, f.role, x, slots, n, window);
             match k {
-                Row::Refused { which, place } => Fed::Refused { which, place },
+                Row::Refused(r) => Fed::Refused(r),
                 Row::Past { at, entries } => Fed::Past {
                     at,
                     entries,
@@ -415,17 +410,26 @@ fn feed_number(s: &[u8], at: usize, f: Item, slots: usize, n: usize, p: usize) -
 }
 
 // An item that reads something, with n entries and p bytes of payload before it.
-fn feed(s: &[u8], at: usize, f: Item, slots: usize, room: usize, n: usize, p: usize) -> Fed
+fn feed(
+    s: &[u8],
+    at: usize,
+    f: Item,
+    slots: usize,
+    room: usize,
+    n: usize,
+    p: usize,
+    window: &mut [u64; 16],
+) -> Fed
     requires { ⌜ (f .kind ≡ 0 → ⊥) × (f .kind ≡ 16 → ⊥) ⌝ }
-    ensures law { λ r. ⌜ ((ver : Version) (x : Record) → x .entries ≡ n → x .payload ≡ p → judgeOf (now (s .entry)) slots room x (run (itemTree ver f) (now (s .entry)) at) ≡ fedTo (now (s .entry)) slots room ver x f r) ⌝ }
+    ensures law { λ r. ⌜ Feeds (now (s .entry)) slots room at n p f (now (window .entry)) (now (window .exit)) r ⌝ }
     ensures on { λ r. ⌜ FedTook (now (s .entry)) at r ⌝ }
 {
     let kind = f.kind;
     if kind == table::STR {
-        let k = judge_text(s, at, f.role, slots, n);
+        let k = judge_text(s, at, f.role, slots, n, window);
         match k {
-            Row::Refused { which, place } => {
-                return Fed::Refused { which, place };
+            Row::Refused(r) => {
+                return Fed::Refused(r);
             }
             Row::Past { at, entries } => {
                 return Fed::Past {
@@ -442,8 +446,8 @@ fn feed(s: &[u8], at: usize, f: Item, slots: usize, room: usize, n: usize, p: us
     if kind == table::FRAMES {
         let k = judge_frames(s, at, room, p);
         match k {
-            Row::Refused { which, place } => {
-                return Fed::Refused { which, place };
+            Row::Refused(r) => {
+                return Fed::Refused(r);
             }
             Row::Past { at, entries } => {
                 return Fed::Past {
@@ -457,7 +461,7 @@ fn feed(s: &[u8], at: usize, f: Item, slots: usize, room: usize, n: usize, p: us
             }
         }
     }
-    feed_number(s, at, f, slots, n, p)
+    feed_number(s, at, f, slots, n, p, window)
 }
 
 // What is said, with the numbers and counts beside it, as one answer.
@@ -485,16 +489,8 @@ pub fn answer_of(said: Said, numbers: [u64; 12], counts: [u64; 3]) -> Answer
                 payload,
             },
         },
-        Said::Refused {
-            which,
-            place,
-            stream,
-        } => Answer {
-            outcome: Outcome::Refused {
-                which,
-                place,
-                stream,
-            },
+        Said::Refused(refusal) => Answer {
+            outcome: Outcome::Refused(refusal),
             kind: 0,
             ends: 0,
             ends2: 0,
@@ -531,21 +527,18 @@ fn note(numbers: &mut [u64; 12], counts: &mut [u64; 3], present: bool, slot: usi
     x != 0
 }
 
-// A refusal, of a stream that is not a handshake's, with numbers and counts that say nothing.
-pub fn refuse(which: u64, place: usize, numbers: &mut [u64; 12], counts: &mut [u64; 3]) -> Said
-    ensures { λ r. ⌜ answerOf r (now (numbers .exit)) (now (counts .exit)) ≡ answerAs (refused which place 0) ⌝ }
+// A refusal, with numbers and counts that say nothing.
+pub fn refuse(refusal: Refusal, numbers: &mut [u64; 12], counts: &mut [u64; 3]) -> Said
+    ensures said { λ r. ⌜ r ≡ S.Refused refusal ⌝ }
+    ensures answer { λ r. ⌜ answerOf r (now (numbers .exit)) (now (counts .exit)) ≡ answerAs (refusedBy refusal) ⌝ }
 {
     *numbers = [0u64; 12];
     *counts = [0u64; 3];
-    Said::Refused {
-        which,
-        place,
-        stream: 0,
-    }
+    Said::Refused(refusal)
 }
 
 // The layout that begins at a place of the stream, with the record so far, whose numbers and counts are written in place. There is room for so many entries
-// and payload bytes in all.
+// and payload bytes in all. The first entries go into the window, which a refusal leaves empty.
 pub fn judge(
     s: &[u8],
     from: usize,
@@ -557,14 +550,17 @@ pub fn judge(
     there: bool,
     numbers: &mut [u64; 12],
     counts: &mut [u64; 3],
+    window: &mut [u64; 16],
 ) -> Said
-    ensures { λ r. ⌜ answerOf r (now (numbers .exit)) (now (counts .exit)) ≡ answerAs (endedAs (judgeOf (now (s .entry)) slots room (gathered (now (numbers .entry)) (now (counts .entry)) there entries payload) (piecesOf layout (now (s .entry)) from))) ⌝ }
+    ensures answer { λ r. ⌜ answerOf r (now (numbers .exit)) (now (counts .exit)) ≡ answerAs (endedAs (judgeOf (now (s .entry)) slots room (gathered (now (numbers .entry)) (now (counts .entry)) there entries payload) (piecesOf layout (now (s .entry)) from))) ⌝ }
+    ensures window { λ r. ⌜ now (window .exit) ≡ windowAfter r (now (window .entry)) entries (entriesOf (piecesOf layout (now (s .entry)) from)) ⌝ }
 {
+    let f = items::begin(layout);
     let mut at = from;
-    let mut pc = table::FIELD_COUNT;
-    let mut reps: u64 = 0;
-    let mut body = table::FIELD_COUNT;
-    let mut run = layout.first;
+    let mut pc = f.pc;
+    let mut reps = f.reps;
+    let mut body = f.body;
+    let mut run = f.run;
     let mut n = entries;
     let mut p = payload;
     let mut present = there;
@@ -586,10 +582,11 @@ pub fn judge(
         if f.kind == items::QUIET {
             reps = f.reps;
         } else {
-            let k = feed(s, at, f, slots, room, n, p);
+            let k = feed(s, at, f, slots, room, n, p, window);
             match k {
-                Fed::Refused { which, place } => {
-                    return refuse(which, place, numbers, counts);
+                Fed::Refused(r) => {
+                    *window = [0u64; 16];
+                    return refuse(r, numbers, counts);
                 }
                 Fed::Past {
                     at: next,
@@ -623,6 +620,7 @@ pub fn judge_record(
 {
     let mut numbers = sofar.numbers;
     let mut counts = sofar.counts;
+    let mut window = [0u64; 16];
     let said = judge(
         s,
         from,
@@ -634,6 +632,7 @@ pub fn judge_record(
         sofar.present,
         &mut numbers,
         &mut counts,
+        &mut window,
     );
     answer_of(said, numbers, counts)
 }

@@ -1,32 +1,30 @@
 // Made by ./tables from crates/layouts/specs and crates/table/specs/Claims.antt: the kind that a code stands for. Only a code that a version or a flag decides is not its own kind.
-ghost use Rattle.layouts.specs.Primitive.{version};
-ghost use Rattle.table.specs.Table.{kindNumbered};
+ghost use Rattle.table.specs.Table.{versionIn, kindNumbered};
 ghost use mathlib.Core.Path.{_≡_};
 use crate::either;
 use crate::since;
 use table::kinds as kind;
 
-pub fn decided(code: u8, major: u16, minor: u8, present: bool) -> u8
-    ensures { λ r. ⌜ r ≡ kindNumbered (version major minor) present code ⌝ }
+pub fn decided(code: u8, spoken: u64, present: bool) -> u8
+    ensures { λ r. ⌜ r ≡ kindNumbered (versionIn spoken) present code ⌝ }
 {
     match code {
         kind::FROM_25_ADD_TO_STORE_ELSE_NONE => {
             // arguments of 7
-            since(major, minor, 25, kind::ADD_TO_STORE, kind::NONE)
+            since(spoken, 25, kind::ADD_TO_STORE, kind::NONE)
         }
         kind::FROM_25_FROM_16_PATH_INFO_ELSE_PATH_INFO_OLD_ELSE_STR => {
             // reply of 7
             since(
-                major,
-                minor,
+                spoken,
                 25,
-                since(major, minor, 16, kind::PATH_INFO, kind::PATH_INFO_OLD),
+                since(spoken, 16, kind::PATH_INFO, kind::PATH_INFO_OLD),
                 kind::STR,
             )
         }
         kind::FROM_12_COUNT_OF_OVERRIDES_ELSE_EMPTY_TEXT => {
             // skipped of 19
-            since(major, minor, 12, kind::COUNT_OF_OVERRIDES, kind::EMPTY_TEXT)
+            since(spoken, 12, kind::COUNT_OF_OVERRIDES, kind::EMPTY_TEXT)
         }
         kind::IF_THERE_SUBSTITUTABLE_PATH_INFO_ELSE_NO_SUBSTITUTABLE_PATH_INFO => {
             // reply of 21
@@ -40,13 +38,13 @@ pub fn decided(code: u8, major: u16, minor: u8, present: bool) -> u8
             // reply of 26
             either(
                 present,
-                since(major, minor, 16, kind::PATH_INFO, kind::PATH_INFO_OLD),
+                since(spoken, 16, kind::PATH_INFO, kind::PATH_INFO_OLD),
                 kind::NO_PATH_INFO,
             )
         }
         kind::FROM_23_FRAMED_ELSE_NONE => {
             // reply of 38
-            since(major, minor, 23, kind::FRAMED, kind::NONE)
+            since(spoken, 23, kind::FRAMED, kind::NONE)
         }
         _ => code,
     }

@@ -12,3 +12,5 @@ pub mod Handshake
 pub mod Writers
 pub mod Grammar
 pub mod Examples
+-- not of document 01: what a refusal of the code means in its words
+pub mod Refusal

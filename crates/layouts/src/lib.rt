@@ -1,5 +1,7 @@
 // The exact rules, as definitions (`specs/`) and theorems about them (`proofs/`). The code is what the crates above share: the numbers
-// of the refusals, and one type, which the readers fill.
+// of the refusals, their type, and the record, which the readers fill.
+ghost use mathlib.Core.Path.{_≡_};
+ghost use Rattle.layouts.specs.Refusal.{plain};
 
 // A piece needs more bytes than remain.
 pub const CUT_SHORT: u64 = 1;
@@ -34,6 +36,24 @@ pub const NO_SUCH_ENTRY: u64 = 11;
 
 // An entry passes the end of the bytes.
 pub const BAD_ENTRY: u64 = 12;
+
+// Why a call stops: the refusal's number, its place, and 1 for the daemon's stream of a handshake, else 0.
+pub struct Refusal {
+    pub which: u64,
+    pub place: usize,
+    pub stream: u64,
+}
+
+// A refusal of a stream that is not a handshake's.
+pub fn refuse(which: u64, place: usize) -> Refusal
+    ensures { λ r. ⌜ r ≡ plain which place ⌝ }
+{
+    Refusal {
+        which,
+        place,
+        stream: 0,
+    }
+}
 
 // What a layout says: twelve numbers, three counts, whether a group that a flag decides is there, how many entries, how many payload bytes.
 pub struct Record {

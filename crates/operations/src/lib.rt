@@ -9,7 +9,7 @@ pub use rows::row_at;
 // A shape of an operation: its first run in the table, and the code of its kinds.
 pub enum Shape {
     Unknown,
-    At { first: usize, kind: u8 },
+    At { first: u8, kind: u8 },
 }
 
 // A row is packed as a number: a byte each for the runs of arguments, skipped arguments and reply, and for the kinds of the three; then 1. 0 is no row. A call
@@ -22,7 +22,7 @@ pub fn arguments(op: u64) -> Shape
         return Shape::Unknown;
     }
     Shape::At {
-        first: (x % 256) as usize,
+        first: (x % 256) as u8,
         kind: (x / 16777216 % 256) as u8,
     }
 }
@@ -35,7 +35,7 @@ pub fn skipped(op: u64) -> Shape
         return Shape::Unknown;
     }
     Shape::At {
-        first: (x / 256 % 256) as usize,
+        first: (x / 256 % 256) as u8,
         kind: (x / 4294967296 % 256) as u8,
     }
 }
@@ -48,7 +48,7 @@ pub fn reply(op: u64) -> Shape
         return Shape::Unknown;
     }
     Shape::At {
-        first: (x / 65536 % 256) as usize,
+        first: (x / 65536 % 256) as u8,
         kind: (x / 1099511627776 % 256) as u8,
     }
 }

@@ -6,6 +6,7 @@ use contract.Lifetimes.{Lfts}
 use borrow.Fn.Kinds.{PK, RK, Out, Dens, resT, endedOf}
 use denote.Triple.Clauses.{AtExit}
 use Rattle.layouts.specs.Primitive.{Result, ok, refused}
+use Rattle.layouts.specs.Refusal.{refusal}
 use Rattle.ops.specs.declared.Framed.{Framed}
 use Rattle.ops.specs.declared.Framed.the-variants.{Yes, No, Refused}
 use Rattle.ops.specs.Ops.{meaning}
@@ -21,12 +22,12 @@ Determined ps k Post =
 abbrev toldBy : Result Bool → Framed
 toldBy (ok true) = Yes
 toldBy (ok false) = No
-toldBy (refused which place stream) = Refused which place
+toldBy (refused which place stream) = Refused (refusal which place stream)
 
 told-by : (r : Framed) → toldBy (meaning r) ≡ r
 told-by Yes = refl
 told-by No = refl
-told-by (Refused which place) = refl
+told-by (Refused r) = refl
 
 framed-unique : (r r' : Framed) → meaning r ≡ meaning r' → r ≡ r'
 framed-unique r r' e = sym (told-by r) ∙ ap toldBy e ∙ told-by r'

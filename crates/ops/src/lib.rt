@@ -2,6 +2,7 @@
 ghost use mathlib.Core.Path.{_≡_};
 ghost use Rattle.layouts.specs.Calls.{hasFramed, opHasClientFramedData};
 ghost use Rattle.ops.specs.Ops.{meaning};
+use layouts::Refusal;
 use operations::Shape;
 
 const ADD_TO_STORE: u64 = 7;
@@ -15,7 +16,7 @@ const ADD_BUILD_LOG: u64 = 45;
 pub enum Framed {
     Yes,
     No,
-    Refused { which: u64, place: usize },
+    Refused(Refusal),
 }
 
 fn has_framed(op: u64) -> bool
@@ -33,10 +34,7 @@ pub fn op_has_client_framed_data(op: u64) -> Framed
 {
     let found = operations::arguments(op);
     match found {
-        Shape::Unknown => Framed::Refused {
-            which: layouts::UNKNOWN_OPERATION,
-            place: 0,
-        },
+        Shape::Unknown => Framed::Refused(layouts::refuse(layouts::UNKNOWN_OPERATION, 0)),
         Shape::At { first: _, kind: _ } => {
             if has_framed(op) {
                 return Framed::Yes;

@@ -10,7 +10,9 @@ use native.Mathlib.Omega.{arith}
 use native.Mathlib.Decide.{decLe}
 use native.Mathlib.Nat.{add-zero, zero-add, suc-add, add-suc}
 use borrow.Author.Tests.{le-leb, lt-leb, leb-true, leb-false}
-use Rattle.layouts.specs.Primitive.{pick, Result, littleEnd, numberBytes, padOf, ok, refused}
+use Rattle.layouts.specs.Primitive.{pick, Result, littleEnd, numberBytes, padOf, ok}
+use Rattle.layouts.specs.declared.Refusal.{Refusal}
+use Rattle.layouts.specs.Refusal.{plain, refusedBy}
 use Rattle.layouts.specs.Writers.{writing, stringBytes}
 use Rattle.layouts.proofs.Little.{length-little, length-number}
 use Rattle.number_out.specs.Stored.{stored}
@@ -165,10 +167,10 @@ done o lent lent' n e h f =
     let t = le-leb (length o) (length lent) (omega arith) in
     simp (t, e, f, placed-fits 0 o lent (omega arith), sets-eq o lent 0 (omega arith), zero-add) (refl, refl)
 
-pub full : (o lent : List ℕ) (n : ℕ) → n ≡ length o → length lent < n
-    → (refused 10 0 0 ≡ writing o lent) × (lent ≡ afterWriting o lent)
+pub full : (o lent : List ℕ) (n : ℕ) → n ≡ length o → length lent < n → (r : Refusal) → r ≡ plain 10 0
+    → (refusedBy r ≡ writing o lent) × (lent ≡ afterWriting o lent)
 unfolding writing
-full o lent n e h = let t = lt-leb (length o) (length lent) (omega arith) in simp t (refl, refl)
+full o lent n e h r p = let t = lt-leb (length o) (length lent) (omega arith) in simp (t, p) (refl, refl)
 
 -- the same output, said in another way
 pub same-output : (o o' lent lent' : List ℕ) (r : Result ℕ) → o ≡ o' → (r ≡ writing o lent) × (lent' ≡ afterWriting o lent)

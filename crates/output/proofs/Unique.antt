@@ -7,6 +7,7 @@ use borrow.Fn.Kinds.{Dens, endedOf}
 use denote.Triple.Clauses.{AtExit}
 use denote.Ref.{now}
 use Rattle.layouts.specs.Primitive.{Result, ok, refused}
+use Rattle.layouts.specs.Refusal.{refusal}
 use Rattle.output.specs.Answer.{meaning}
 use Rattle.output.specs.declared.Written.{Written}
 use Rattle.output.specs.declared.Written.the-variants.{Length, Refused}
@@ -23,11 +24,11 @@ use Rattle.output.proofs.string_length.Kinds as string-length-kinds
 
 abbrev answerOf : Result ℕ → Written
 answerOf (ok n) = Length n
-answerOf (refused which place stream) = Refused which place
+answerOf (refused which place stream) = Refused (refusal which place stream)
 
 answer-of : (v : Written) → answerOf (meaning v) ≡ v
 answer-of (Length n) = refl
-answer-of (Refused which place) = refl
+answer-of (Refused r) = refl
 
 meaning-once : (v w : Written) → meaning v ≡ meaning w → v ≡ w
 meaning-once v w e = sym (answer-of v) ∙ ap answerOf e ∙ answer-of w

@@ -7,11 +7,12 @@ ghost use lib.Dec.{leb};
 ghost use Rattle.layouts.specs.Primitive.{numberBytes, padOf};
 ghost use Rattle.layouts.specs.Writers.{stringBytes};
 ghost use Rattle.output.specs.Placed.{placed};
+use layouts::Refusal;
 
 // The length of what was written at the start of the lent bytes, or a refusal, which leaves them as they were.
 pub enum Written {
     Length(usize),
-    Refused { which: u64, place: usize },
+    Refused(Refusal),
 }
 
 // Do n bytes fit at a place?

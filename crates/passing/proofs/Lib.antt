@@ -1,3 +1,4 @@
 -- They serve the folds.
 pub mod Passing
 pub mod Moving
+pub mod Unique

@@ -1,13 +1,15 @@
 -- A number, a string, framed data, what follows a number and a whole field, passed.
-use Prim.Native.Nat.{ℕ, _+_, _≤_, _<_}
+use Prim.Native.Nat.{ℕ, _+_, _≤_}
 use mathlib.Core.Path.{_≡_, refl, sym, _∙_, ap, subst}
 use mathlib.Core.List.{List}
-use mathlib.Core.Bool.{Bool, true, false}
+use mathlib.Core.Bool.{Bool, false}
 use lib.ListN.{length}
 use native.Mathlib.Omega.{arith}
 use Rattle.layouts.specs.Primitive.{numberAt}
-use Rattle.layouts.specs.Shape.{Slot, dropped, Role, passed, checked, kept, Tree, ask, say, frames, strings, units, field}
-use Rattle.layouts.specs.Pieces.{Pieces, textOf, chunkOf, afterText, run}
+use Rattle.layouts.specs.declared.Refusal.{Refusal}
+use Rattle.layouts.specs.Refusal.{plain}
+use Rattle.layouts.specs.Shape.{Slot, dropped, Role, passed, checked, kept, Tree, ask, say, frames, strings, field}
+use Rattle.layouts.specs.Pieces.{textOf, chunkOf, afterText, run}
 use Rattle.layouts.specs.Calls.{peekNumber}
 use Rattle.number.specs.declared.Number.{Number}
 use Rattle.number.specs.declared.Number.the-variants.{Value, Short}
@@ -15,13 +17,14 @@ use Rattle.pieces.specs.declared.Text as T
 use Rattle.pieces.specs.declared.Text.the-variants.{Whole, Half, Bad}
 use Rattle.pieces.specs.declared.Chunk as C
 use Rattle.pieces.specs.declared.Chunk.the-variants.{Part, Last, Wrong}
-use Rattle.pieces.specs.Pieces.{numRead, textRead, chunkRead}
+use Rattle.pieces.specs.Pieces.{numRead, textFound, chunkFound}
 use Rattle.pieces.proofs.Numbers.{number-known}
+use Rattle.pieces.proofs.Found.{chunkRead, wrong-plain}
 use Rattle.pieces.proofs.Nodes.{ask-cut, ask-found, say-as, whole-found, framesBy, frames-as, last-found, part-found}
 use Rattle.table.specs.Table.{roleOf, slotOf, whatOf}
 use Rattle.strings.specs.declared.Passed.{Passed}
 use Rattle.strings.specs.declared.Passed.the-variants as P
-use Rattle.strings.specs.Strings.{row, stays, textIf, bare, passedTo, Passes, PastFrom}
+use Rattle.strings.specs.Strings.{row, stays, textIf, bare, Passes, PastFrom}
 use Rattle.items.specs.Items.{slotFor, afterNumber}
 use Rattle.items.proofs.Fields.{is-text, is-framed, is-number, after-set, after-pairs, after-false, after-true, after-type-0, after-typed, after-nothing}
 use Rattle.passing.specs.Passing.{Leaves, Took}
@@ -41,7 +44,7 @@ skip-leaves kind role = (λ e. refl, λ h l. skips-all (roleOf role))
 module _ (s : List ℕ) (at : ℕ) where
   pub took-past : (r : Passed) → Took s at r → PastFrom at r
   took-past (P.Past a) h = omega (arith, h)
-  took-past (P.Refused which place) h = tt
+  took-past (P.Refused x) h = h
 
   -- the same tree
   pub passes-as : (b : Bool) (t u : (Unit {0} → Tree) → Tree) (r : Passed) → ((k : Unit {0} → Tree) → t k ≡ u k) → Passes b s at u r → Passes b s at t r
@@ -49,9 +52,9 @@ module _ (s : List ℕ) (at : ℕ) where
 
   -- ---- a number
   module _ (m : Number) (e : numRead m ≡ peekNumber s at) where
-    pub cut-passes : m ≡ Short → (b : Bool) (i : Slot) (j : (Unit {0} → Tree) → ℕ → Tree) → Passes b s at (λ k. ask i (j k)) (P.Refused 1 at)
+    pub cut-passes : m ≡ Short → (x : Refusal) → x ≡ plain 1 at → (b : Bool) (i : Slot) (j : (Unit {0} → Tree) → ℕ → Tree) → Passes b s at (λ k. ask i (j k)) (P.Refused x)
     unfolding bare
-    cut-passes q b i j k = ap (bare b) (ask-cut s at m e q i (j k))
+    cut-passes q x p b i j k = rw p (ap (bare b) (ask-cut s at m e q i (j k)))
 
     module _ (n : ℕ) (q : m ≡ Value n) where
       pub value-passes : (b : Bool) (i : Slot) (j : (Unit {0} → Tree) → ℕ → Tree) (r : Passed) → Passes b s (at + 8) (λ k. j k n) r → Passes b s at (λ k. ask i (j k)) r
@@ -60,7 +63,7 @@ module _ (s : List ℕ) (at : ℕ) where
 
       pub value-took : (r : Passed) → PastFrom (at + 8) r → Took s at r
       value-took (P.Past a) h = (h, number-known s at m e n q .0)
-      value-took (P.Refused which place) h = tt
+      value-took (P.Refused x) h = h
 
       pub number-took : Took s at (P.Past (at + 8))
       number-took = let h = number-known s at m e n q in (omega arith, h .0)
@@ -69,14 +72,14 @@ module _ (s : List ℕ) (at : ℕ) where
       number-passes b i = value-passes b i (λ k v. k tt) (P.Past (at + 8)) (λ k. refl)
 
   -- ---- a string
-  module _ (m : T.Text) (e : textRead m ≡ textOf (length s) (numberAt s at) at) where
-    pub bad-passes : (which place : ℕ) → m ≡ Bad which place → (b : Bool) (r : Role) → Passes b s at (say r) (P.Refused which place)
+  module _ (m : T.Text) (e : m ≡ textFound (textOf (length s) (numberAt s at) at)) where
+    pub bad-passes : (x : Refusal) → m ≡ Bad x → (b : Bool) (r : Role) → Passes b s at (say r) (P.Refused x)
     unfolding afterText bare
-    bad-passes which place q b r k = ap (bare b) (say-as s at m e (Bad which place) q r k)
+    bad-passes x q b r k = ap (bare b) (say-as s at m e (Bad x) q r k)
 
-    pub half-passes : (start len : ℕ) → m ≡ Half start len → (b : Bool) (r : Role) → Passes b s at (say r) (P.Refused 1 (start + len))
+    pub half-passes : (start len : ℕ) → m ≡ Half start len → (x : Refusal) → x ≡ plain 1 (start + len) → (b : Bool) (r : Role) → Passes b s at (say r) (P.Refused x)
     unfolding afterText bare
-    half-passes start len q b r k = ap (bare b) (say-as s at m e (Half start len) q r k)
+    half-passes start len q x p b r k = rw p (ap (bare b) (say-as s at m e (Half start len) q r k))
 
     pub whole-passes : (start len next : ℕ) → m ≡ Whole start len next → (b : Bool) (r : Role) → stays b r ≡ false → Passes b s at (say r) (P.Past next)
     unfolding afterText bare
@@ -94,13 +97,13 @@ pub record Framing (s : List ℕ) (from at : ℕ) : Type 0 where
 pub framing-start : (s : List ℕ) (from : ℕ) → Framing s from from
 framing-start s from = record { on = omega arith; same = λ k. refl }
 
-module _ (s : List ℕ) (from at : ℕ) (g : Framing s from at) (m : C.Chunk) (e : chunkRead m ≡ chunkOf (length s) (numberAt s at) at) where
+module _ (s : List ℕ) (from at : ℕ) (g : Framing s from at) (m : C.Chunk) (e : m ≡ chunkFound (chunkOf (length s) (numberAt s at) at)) where
   framed : (y : C.Chunk) → m ≡ y → (k : Unit {0} → Tree) → bare false (run (frames k) s from) ≡ bare false (framesBy s at k (chunkRead y))
   framed y q k = g .same k ∙ ap (bare false) (frames-as s at m e y q k)
 
-  pub framing-wrong : (which place : ℕ) → m ≡ Wrong which place → Passes false s from frames (P.Refused which place)
+  pub framing-wrong : (x : Refusal) → m ≡ Wrong x → Passes false s from frames (P.Refused x) × Took s from (P.Refused x)
   unfolding bare
-  framing-wrong which place q k = framed (Wrong which place) q k
+  framing-wrong x q = (λ k. framed (Wrong x) q k, wrong-plain s at m e x q)
 
   pub framing-last : (next : ℕ) → m ≡ Last next → Passes false s from frames (P.Past next) × Took s from (P.Past next)
   framing-last next q =
@@ -156,8 +159,8 @@ module _ (s : List ℕ) (at kind : ℕ) (r : Passed) where
   frames-field e h b role i l = passes-as s at b _ _ r (λ k. is-framed kind role i k e) (subst (λ (x : Bool). Passes x s at frames r) (sym (l .0 e)) h)
 
 module _ (s : List ℕ) (at kind : ℕ) (x : kind ≡ 2 → ⊥) (y : kind ≡ 5 → ⊥) (m : Number) (e : numRead m ≡ peekNumber s at) where
-  pub cut-field : m ≡ Short → FieldPasses s at kind (P.Refused 1 at)
-  cut-field q b role i l = passes-as s at b _ _ (P.Refused 1 at) (λ k. is-number kind role i k x y) (cut-passes s at m e q b (slotOf (slotFor kind i)) (λ k n. afterNumber kind role n k))
+  pub cut-field : m ≡ Short → (z : Refusal) → z ≡ plain 1 at → FieldPasses s at kind (P.Refused z)
+  cut-field q z p b role i l = passes-as s at b _ _ (P.Refused z) (λ k. is-number kind role i k x y) (cut-passes s at m e q z p b (slotOf (slotFor kind i)) (λ k n. afterNumber kind role n k))
 
   pub number-field : (n : ℕ) → m ≡ Value n → (r : Passed) → After s (at + 8) kind n r → FieldPasses s at kind r
   number-field n q r h b role i l =

@@ -2,16 +2,17 @@
 // nothing goes into a room: one loop and one law serve both.
 ghost use mathlib.Core.Path.{_≡_};
 ghost use mathlib.Core.Bool.{Bool, false};
-ghost use Prim.Native.Nat.{ℕ};
+ghost use Prim.Native.Nat.{ℕ, suc};
 ghost use Rattle.layouts.specs.Primitive.{Version};
 ghost use Rattle.layouts.specs.Shape.{Role, Slot, ask, say, frames, field};
 ghost use Rattle.layouts.specs.Pieces.{run};
 ghost use Rattle.table.specs.Table.{roleOf, slotOf, whatOf};
 ghost use Rattle.strings.specs.Strings.{stays, bare, Passes, PastFrom};
 ghost use Rattle.items.specs.Items.{versionOf, restTree, afterNumber, itemTree};
-ghost use Rattle.passing.specs.Passing.{Leaves, Took, movedTo, MovedOn, Stays, stopTo, fuelOf, StopOn};
+ghost use Rattle.passing.specs.Passing.{Leaves, Took, movedTo, MovedOn, movedOf, staysIn, stopTo, fuelOf, StopOn, passOf};
 use items::Item;
 use items::Layout;
+use layouts::Refusal;
 use number::Number;
 use pieces::Chunk;
 use pieces::Text;
@@ -20,14 +21,14 @@ use strings::Passed;
 // Where an item ends, and how often the body comes again; or the first refusal.
 enum Moved {
     Past { at: usize, reps: u64 },
-    Refused { which: u64, place: usize },
+    Refused(Refusal),
 }
 
 // Where passing stops: the end of the layout, an item that stays, or the first refusal.
 pub enum Stop {
     End(usize),
     Stays { at: usize, item: Item },
-    Refused { which: u64, place: usize },
+    Refused(Refusal),
 }
 
 fn pass_number(s: &[u8], at: usize) -> Passed
@@ -36,10 +37,7 @@ fn pass_number(s: &[u8], at: usize) -> Passed
 {
     let m = pieces::number_at(s, at);
     match m {
-        Number::Short => Passed::Refused {
-            which: layouts::CUT_SHORT,
-            place: at,
-        },
+        Number::Short => Passed::Refused(layouts::refuse(layouts::CUT_SHORT, at)),
         Number::Value(_) => Passed::Past(at + 8),
     }
 }
@@ -50,11 +48,11 @@ fn pass_text(s: &[u8], at: usize) -> Passed
 {
     let m = pieces::text_at(s, at);
     match m {
-        Text::Bad { which, place } => Passed::Refused { which, place },
-        Text::Half { start, len } => Passed::Refused {
-            which: layouts::CUT_SHORT,
-            place: start + len,
-        },
+        Text::Bad(r) => Passed::Refused(r),
+        Text::Half { start, len } => Passed::Refused(layouts::refuse(
+            layouts::CUT_SHORT,
+            start + len,
+        )),
         Text::Whole {
             start: _,
             len: _,
@@ -72,8 +70,8 @@ fn pass_frames(s: &[u8], from: usize) -> Passed
     loop {
         let m = pieces::chunk_at(s, at);
         match m {
-            Chunk::Wrong { which, place } => {
-                return Passed::Refused { which, place };
+            Chunk::Wrong(r) => {
+                return Passed::Refused(r);
             }
             Chunk::Last(next) => {
                 return Passed::Past(next);
@@ -127,10 +125,7 @@ fn pass_field(s: &[u8], at: usize, kind: u8) -> Passed
     }
     let m = pieces::number_at(s, at);
     match m {
-        Number::Short => Passed::Refused {
-            which: layouts::CUT_SHORT,
-            place: at,
-        },
+        Number::Short => Passed::Refused(layouts::refuse(layouts::CUT_SHORT, at)),
         Number::Value(n) => pass_after(s, at + 8, kind, n),
     }
 }
@@ -139,6 +134,7 @@ fn pass_field(s: &[u8], at: usize, kind: u8) -> Passed
 fn pass_item(s: &[u8], at: usize, f: Item) -> Moved
     ensures law { λ r. ⌜ ((b : Bool) (v : Version) → (f .kind ≡ 0 → ⊥) → Leaves b (f .kind) (f .role) → bare b (run (itemTree v f) (now (s .entry)) at) ≡ movedTo b (now (s .entry)) v f r) ⌝ }
     ensures on { λ r. ⌜ MovedOn (now (s .entry)) at f r ⌝ }
+    ensures said { λ r. ⌜ r ≡ movedOf (now (s .entry)) at f ⌝ }
 {
     let kind = f.kind;
     if kind == items::QUIET {
@@ -147,8 +143,8 @@ fn pass_item(s: &[u8], at: usize, f: Item) -> Moved
     if kind < items::QUIET {
         let k = pass_field(s, at, kind);
         match k {
-            Passed::Refused { which, place } => {
-                return Moved::Refused { which, place };
+            Passed::Refused(r) => {
+                return Moved::Refused(r);
             }
             Passed::Past(next) => {
                 return Moved::Past {
@@ -160,10 +156,7 @@ fn pass_item(s: &[u8], at: usize, f: Item) -> Moved
     }
     let m = pieces::number_at(s, at);
     match m {
-        Number::Short => Moved::Refused {
-            which: layouts::CUT_SHORT,
-            place: at,
-        },
+        Number::Short => Moved::Refused(layouts::refuse(layouts::CUT_SHORT, at)),
         Number::Value(n) => Moved::Past {
             at: at + 8,
             reps: items::times(kind, n),
@@ -173,7 +166,7 @@ fn pass_item(s: &[u8], at: usize, f: Item) -> Moved
 
 // Does anything of such a field go into a room?
 fn stays(keep: bool, kind: u8, role: u8) -> bool
-    ensures { λ r. ⌜ Stays keep kind role r ⌝ }
+    ensures { λ r. ⌜ r ≡ staysIn keep kind role ⌝ }
 {
     if !keep {
         return false;
@@ -203,6 +196,7 @@ pub fn pass(
 ) -> Stop
     ensures law { λ r. ⌜ bare keep (run (restTree (versionOf layout) field times start group tt) (now (s .entry)) from) ≡ stopTo keep (now (s .entry)) (versionOf layout) r ⌝ }
     ensures on { λ r. ⌜ StopOn keep (now (s .entry)) (fuelOf (now (s .entry)) from field times group) r ⌝ }
+    ensures said { λ r. ⌜ r ≡ passOf (suc (fuelOf (now (s .entry)) from field times group)) keep (now (s .entry)) (versionOf layout) from field times start group ⌝ }
 {
     let mut at = from;
     let mut pc = field;
@@ -219,8 +213,8 @@ pub fn pass(
         }
         let k = pass_item(s, at, f);
         match k {
-            Moved::Refused { which, place } => {
-                return Stop::Refused { which, place };
+            Moved::Refused(r) => {
+                return Stop::Refused(r);
             }
             Moved::Past {
                 at: next,

@@ -16,8 +16,8 @@ use Rattle.pieces.specs.declared.Text as T
 use Rattle.pieces.specs.declared.Text.the-variants.{Whole, Half}
 use Rattle.pieces.specs.declared.Chunk as C
 use Rattle.pieces.specs.declared.Chunk.the-variants.{Part, Last}
-use Rattle.pieces.specs.Pieces.{numRead, textRead, chunkRead}
-use Rattle.pieces.proofs.Found.{text-known, chunk-known}
+use Rattle.pieces.specs.Pieces.{numRead, textFound, chunkFound}
+use Rattle.pieces.proofs.Found.{textRead, text-told, chunkRead, chunk-told, text-known, chunk-known}
 
 module _ (s : List ℕ) (at : ℕ) where
   -- ---- a number
@@ -35,17 +35,17 @@ module _ (s : List ℕ) (at : ℕ) where
     ask-found n q i k = ask-as (Value n) q i k
 
   -- ---- a string
-  module _ (m : T.Text) (e : textRead m ≡ textOf (length s) (numberAt s at) at) where
+  module _ (m : T.Text) (e : m ≡ textFound (textOf (length s) (numberAt s at) at)) where
     pub say-as : (m' : T.Text) → m ≡ m' → (r : Role) (k : Unit {0} → Tree) → run (say r k) s at ≡ afterText (textRead m') r (λ a. run (k tt) s a)
     unfolding run
-    say-as m' q r k = ap (λ (x : Text). afterText x r (λ a. run (k tt) s a)) (sym e ∙ ap textRead q)
+    say-as m' q r k = ap (λ (x : Text). afterText x r (λ a. run (k tt) s a)) (sym (text-told s at m e _ q))
 
     pub half-within : (start len : ℕ) → m ≡ Half start len → start + len ≤ length s
-    half-within start len q = text-known (length s) (numberAt s at) at (cut start len) (sym (ap textRead q) ∙ e) .2
+    half-within start len q = text-known (length s) (numberAt s at) at (cut start len) (text-told s at m e _ q) .2
 
     pub whole-found : (start len next : ℕ) → m ≡ Whole start len next → (at + 8 ≤ next) × (next ≤ length s) × (start + len ≤ length s)
     whole-found start len next q =
-        let z = text-known (length s) (numberAt s at) at (whole start len next) (sym (ap textRead q) ∙ e) in
+        let z = text-known (length s) (numberAt s at) at (whole start len next) (text-told s at m e _ q) in
         (omega (arith, z), z .3, omega (arith, z))
 
   -- ---- framed data
@@ -62,14 +62,14 @@ module _ (s : List ℕ) (at : ℕ) where
     frames-view (no-bytes h z l c) = frames-cut s at _ refl k h z l c
     frames-view (is-part h z l) = frames-part s at _ refl k h z l
 
-  module _ (m : C.Chunk) (e : chunkRead m ≡ chunkOf (length s) (numberAt s at) at) where
+  module _ (m : C.Chunk) (e : m ≡ chunkFound (chunkOf (length s) (numberAt s at) at)) where
     pub frames-as : (m' : C.Chunk) → m ≡ m' → (k : Unit {0} → Tree) → run (frames k) s at ≡ framesBy k (chunkRead m')
-    frames-as m' q k = frames-view k (chunk-view (length s) (numberAt s at) at) ∙ ap (framesBy k) (sym e ∙ ap chunkRead q)
+    frames-as m' q k = frames-view k (chunk-view (length s) (numberAt s at) at) ∙ ap (framesBy k) (sym (chunk-told s at m e _ q))
 
     pub last-found : (next : ℕ) → m ≡ Last next → (at + 8 ≤ next) × (next ≤ length s)
-    last-found next q = let z = chunk-known (length s) (numberAt s at) at (last next) (sym (ap chunkRead q) ∙ e) in (omega (arith, z), z .1)
+    last-found next q = let z = chunk-known (length s) (numberAt s at) at (last next) (chunk-told s at m e _ q) in (omega (arith, z), z .1)
 
     pub part-found : (start len next : ℕ) → m ≡ Part start len next → (at + 8 ≤ next) × (next ≤ length s) × (start + len ≤ length s)
     part-found start len next q =
-        let z = chunk-known (length s) (numberAt s at) at (part start len next) (sym (ap chunkRead q) ∙ e) in
+        let z = chunk-known (length s) (numberAt s at) at (part start len next) (chunk-told s at m e _ q) in
         (omega (arith, z), z .2, omega (arith, z))

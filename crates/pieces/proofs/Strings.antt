@@ -9,12 +9,14 @@ use Rattle.text.specs.Rfc3629.{Judged}
 use Rattle.text.specs.Prefix.{isText}
 use Rattle.text.proofs.Meaning.{judged-is}
 use Rattle.layouts.specs.Primitive.{numberAt, ok, refused}
+use Rattle.layouts.specs.declared.Refusal.{Refusal}
+use Rattle.layouts.specs.Refusal.{refusedBy, plain}
 use Rattle.layouts.specs.Pieces.{textOf}
 use Rattle.layouts.specs.Judge.{notText, halfTaken}
-use Rattle.pieces.specs.Pieces.{span, textRead, roleOf, spanOf, stringAt}
+use Rattle.pieces.specs.Pieces.{span, textFound, roleOf, spanOf, stringAt}
 use Rattle.pieces.specs.declared.Text as T
 use Rattle.pieces.specs.declared.Text.the-variants.{Whole, Half, Bad}
-use Rattle.pieces.proofs.Numbers.{as-told}
+use Rattle.pieces.proofs.Found.{textRead, text-told, bad-plain}
 
 not-not : (b : Bool) → b ≡ not (not b)
 not-not true = refl
@@ -41,10 +43,10 @@ bad-is b true e q = refl
 bad-is b false e q = sym q ∙ e
 
 -- each way through the code that judges a string
-module _ (s : List ℕ) (d : Bool) (at : ℕ) (r : T.Text) (e : textRead r ≡ textOf (length s) (numberAt s at) at) where
+module _ (s : List ℕ) (d : Bool) (at : ℕ) (r : T.Text) (e : r ≡ textFound (textOf (length s) (numberAt s at) at)) where
   string-as : (t : T.Text) → r ≡ t → spanOf s (roleOf d) (textRead t) ≡ stringAt s d at
   unfolding stringAt
-  string-as t q = ap (spanOf s (roleOf d)) (as-told textRead q e)
+  string-as t q = ap (spanOf s (roleOf d)) (text-told s at r e _ q)
 
   module _ (start len : ℕ) (b : Bool) (f : b ≡ not (notText s (roleOf d) start len)) where
     module _ (next : ℕ) (q : r ≡ Whole start len next) where
@@ -52,19 +54,19 @@ module _ (s : List ℕ) (d : Bool) (at : ℕ) (r : T.Text) (e : textRead r ≡ t
       unfolding spanOf
       whole-fine g = rw (fine-is b (notText s (roleOf d) start len) f g) at (string-as (Whole start len next) q)
 
-      pub whole-bad : b ≡ false → refused 3 start 0 ≡ stringAt s d at
+      pub whole-bad : b ≡ false → (x : Refusal) → x ≡ plain 3 start → refusedBy x ≡ stringAt s d at
       unfolding spanOf
-      whole-bad g = rw (bad-is b (notText s (roleOf d) start len) f g) at (string-as (Whole start len next) q)
+      whole-bad g x p = rw p (rw (bad-is b (notText s (roleOf d) start len) f g) at (string-as (Whole start len next) q))
 
     module _ (q : r ≡ Half start len) where
-      pub half-fine : b ≡ true → refused 1 (start + len) 0 ≡ stringAt s d at
+      pub half-fine : b ≡ true → (x : Refusal) → x ≡ plain 1 (start + len) → refusedBy x ≡ stringAt s d at
       unfolding spanOf halfTaken
-      half-fine g = rw (fine-is b (notText s (roleOf d) start len) f g) at (string-as (Half start len) q)
+      half-fine g x p = rw p (rw (fine-is b (notText s (roleOf d) start len) f g) at (string-as (Half start len) q))
 
-      pub half-bad : b ≡ false → refused 3 start 0 ≡ stringAt s d at
+      pub half-bad : b ≡ false → (x : Refusal) → x ≡ plain 3 start → refusedBy x ≡ stringAt s d at
       unfolding spanOf halfTaken
-      half-bad g = rw (bad-is b (notText s (roleOf d) start len) f g) at (string-as (Half start len) q)
+      half-bad g x p = rw p (rw (bad-is b (notText s (roleOf d) start len) f g) at (string-as (Half start len) q))
 
-  pub not-there : (which place : ℕ) → r ≡ Bad which place → refused which place 0 ≡ stringAt s d at
+  pub not-there : (x : Refusal) → r ≡ Bad x → refusedBy x ≡ stringAt s d at
   unfolding spanOf
-  not-there which place q = string-as (Bad which place) q
+  not-there x q = rw (bad-plain s at r e x q) (string-as (Bad x) q)

@@ -5,14 +5,13 @@ use contract.Lifetimes.{Lfts}
 use borrow.Fn.Kinds.{Dens, endedOf}
 use denote.Triple.Clauses.{AtExit}
 use Rattle.layouts.specs.Primitive.{Result, ok, refused}
-use Rattle.layouts.specs.Pieces.{Num, value, short, Text, whole, cut, bad, Chunk, part, last, wrong}
+use Rattle.layouts.specs.Refusal.{refusal}
+use Rattle.layouts.specs.Pieces.{Num, value, short}
 use Rattle.number.specs.declared.Number.{Number}
 use Rattle.number.specs.declared.Number.the-variants.{Value, Short}
-use Rattle.pieces.specs.Pieces.{Span, numRead, textRead, chunkRead, judgedRead}
+use Rattle.pieces.specs.Pieces.{Span, numRead, judgedRead}
 use Rattle.pieces.specs.declared.Text as T
-use Rattle.pieces.specs.declared.Text.the-variants.{Whole, Half, Bad}
 use Rattle.pieces.specs.declared.Chunk as C
-use Rattle.pieces.specs.declared.Chunk.the-variants.{Part, Last, Wrong}
 use Rattle.pieces.specs.declared.Judged.{Judged}
 use Rattle.pieces.specs.declared.Judged.the-variants.{Fine, Refused}
 use Rattle.pieces.proofs.number_at.Reads as number-at
@@ -40,37 +39,17 @@ num-back : (r : Number) → numberBack (numRead r) ≡ r
 num-back (Value n) = refl
 num-back Short = refl
 
-abbrev textBack : Text → T.Text
-textBack (whole start len next) = Whole start len next
-textBack (cut start len) = Half start len
-textBack (bad which place) = Bad which place
-
-text-back : (r : T.Text) → textBack (textRead r) ≡ r
-text-back (Whole start len next) = refl
-text-back (Half start len) = refl
-text-back (Bad which place) = refl
-
-abbrev chunkBack : Chunk → C.Chunk
-chunkBack (part start len next) = Part start len next
-chunkBack (last next) = Last next
-chunkBack (wrong which place) = Wrong which place
-
-chunk-back : (r : C.Chunk) → chunkBack (chunkRead r) ≡ r
-chunk-back (Part start len next) = refl
-chunk-back (Last next) = refl
-chunk-back (Wrong which place) = refl
-
 pub number-at-unique : (κs : Lfts 1) (a : Dens κs number-at-kinds.ps) (r r′ : Number) (x x′ : AtExit (endedOf 1 number-at-kinds.ps number-at-kinds.r) κs)
     → number-at.Post κs a r x → number-at.Post κs a r′ x′ → r ≡ r′
 number-at-unique κs a r r′ x x′ p q = told numRead numberBack num-back r r′ p q
 
 abbrev judgedBack : Result Span → Judged
 judgedBack (ok p) = Fine (p .start) (p .len) (p .ends)
-judgedBack (refused which place stream) = Refused which place
+judgedBack (refused which place stream) = Refused (refusal which place stream)
 
 judged-back : (r : Judged) → judgedBack (judgedRead r) ≡ r
 judged-back (Fine start len next) = refl
-judged-back (Refused which place) = refl
+judged-back (Refused r) = refl
 
 pub four-at-unique : (κs : Lfts 1) (a : Dens κs four-at-kinds.ps) (r r′ : Number) (x x′ : AtExit (endedOf 1 four-at-kinds.ps four-at-kinds.r) κs)
     → four-at.Post κs a r x → four-at.Post κs a r′ x′ → r ≡ r′
@@ -82,11 +61,11 @@ string-at-unique κs a r r′ x x′ p q = told judgedRead judgedBack judged-bac
 
 pub text-at-unique : (κs : Lfts 1) (a : Dens κs text-at-kinds.ps) (r r′ : T.Text) (x x′ : AtExit (endedOf 1 text-at-kinds.ps text-at-kinds.r) κs)
     → text-at.Post κs a r x → text-at.Post κs a r′ x′ → r ≡ r′
-text-at-unique κs a r r′ x x′ p q = told textRead textBack text-back r r′ p q
+text-at-unique κs a r r′ x x′ p q = p ∙ sym q
 
 pub chunk-at-unique : (κs : Lfts 1) (a : Dens κs chunk-at-kinds.ps) (r r′ : C.Chunk) (x x′ : AtExit (endedOf 1 chunk-at-kinds.ps chunk-at-kinds.r) κs)
     → chunk-at.Post κs a r x → chunk-at.Post κs a r′ x′ → r ≡ r′
-chunk-at-unique κs a r r′ x x′ p q = told chunkRead chunkBack chunk-back r r′ p q
+chunk-at-unique κs a r r′ x x′ p q = p ∙ sym q
 
 pub padding-unique : (κs : Lfts 0) (a : Dens κs padding-kinds.ps) (r r′ : ℕ) (x x′ : AtExit (endedOf 0 padding-kinds.ps padding-kinds.r) κs)
     → padding.Post κs a r x → padding.Post κs a r′ x′ → r ≡ r′

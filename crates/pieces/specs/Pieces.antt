@@ -5,6 +5,7 @@ use mathlib.Core.Bool.{Bool, true, false}
 use lib.ListN.{length}
 use lib.Dec.{leb}
 use Rattle.layouts.specs.Primitive.{pick, littleAt, numberAt, badText, Result, ok, refused}
+use Rattle.layouts.specs.Refusal.{refusedBy, plain}
 use Rattle.layouts.specs.Shape.{Role, passed, kept}
 use Rattle.layouts.specs.Pieces.{Num, value, short, Text, whole, cut, bad, Chunk, part, last, wrong, textOf}
 use Rattle.layouts.specs.Judge.{notText, halfTaken}
@@ -25,15 +26,16 @@ numRead Short = short
 abbrev pub wordAt : (k : ℕ) → List ℕ → (at : ℕ) → Num
 wordAt k s at = pick (leb (at + k) (length s)) (value (littleAt k s at)) short
 
-abbrev pub textRead : T.Text → Text
-textRead (Whole start len next) = whole start len next
-textRead (Half start len) = cut start len
-textRead (Bad which place) = bad which place
+-- what was found, as the code answers it
+abbrev pub textFound : Text → T.Text
+textFound (whole start len next) = Whole start len next
+textFound (cut start len) = Half start len
+textFound (bad which place) = Bad (plain which place)
 
-abbrev pub chunkRead : C.Chunk → Chunk
-chunkRead (Part start len next) = part start len next
-chunkRead (Last next) = last next
-chunkRead (Wrong which place) = wrong which place
+abbrev pub chunkFound : Chunk → C.Chunk
+chunkFound (part start len next) = Part start len next
+chunkFound (last next) = Last next
+chunkFound (wrong which place) = Wrong (plain which place)
 
 -- a string, by start and length of its contents, and the place after it
 pub record Span : Type 0 where
@@ -46,7 +48,7 @@ span start len ends = record { start = start; len = len; ends = ends }
 
 abbrev pub judgedRead : Judged → Result Span
 judgedRead (Fine start len next) = ok (span start len next)
-judgedRead (Refused which place) = refused which place 0
+judgedRead (Refused r) = refusedBy r
 
 -- a string that is decoded is kept, another is passed
 abbrev pub roleOf : (decoded : Bool) → Role

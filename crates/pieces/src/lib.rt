@@ -7,7 +7,8 @@ ghost use Rattle.layouts.specs.Primitive.{numberAt, padOf};
 ghost use Rattle.layouts.specs.Pieces.{textOf, chunkOf};
 ghost use Rattle.layouts.specs.Judge.{notText};
 ghost use Rattle.layouts.specs.Calls.{peekNumber};
-ghost use Rattle.pieces.specs.Pieces.{numRead, wordAt, textRead, chunkRead, judgedRead, roleOf, stringAt};
+ghost use Rattle.pieces.specs.Pieces.{numRead, wordAt, textFound, chunkFound, judgedRead, roleOf, stringAt};
+use layouts::Refusal;
 use number::Number;
 
 pub const MAX_WIRE_STRING_LEN: u64 = 268435456;
@@ -23,10 +24,7 @@ pub enum Text {
         start: usize,
         len: usize,
     },
-    Bad {
-        which: u64,
-        place: usize,
-    },
+    Bad(Refusal),
 }
 
 // A string that was judged: fine, by start and length of its contents and the place after it.
@@ -36,10 +34,7 @@ pub enum Judged {
         len: usize,
         next: usize,
     },
-    Refused {
-        which: u64,
-        place: usize,
-    },
+    Refused(Refusal),
 }
 
 pub enum Chunk {
@@ -49,10 +44,7 @@ pub enum Chunk {
         next: usize,
     },
     Last(usize),
-    Wrong {
-        which: u64,
-        place: usize,
-    },
+    Wrong(Refusal),
 }
 
 pub fn number_at(s: &[u8], at: usize) -> Number
@@ -80,28 +72,19 @@ pub fn padding(len: usize) -> usize
 }
 
 pub fn text_at(s: &[u8], at: usize) -> Text
-    ensures { λ r. ⌜ textRead r ≡ textOf (length (now (s .entry))) (numberAt (now (s .entry)) at) at ⌝ }
+    ensures { λ r. ⌜ r ≡ textFound (textOf (length (now (s .entry))) (numberAt (now (s .entry)) at) at) ⌝ }
 {
     match number_at(s, at) {
-        Number::Short => Text::Bad {
-            which: layouts::CUT_SHORT,
-            place: at,
-        },
+        Number::Short => Text::Bad(layouts::refuse(layouts::CUT_SHORT, at)),
         Number::Value(n) => {
             if MAX_WIRE_STRING_LEN < n {
-                return Text::Bad {
-                    which: layouts::TOO_LONG,
-                    place: at,
-                };
+                return Text::Bad(layouts::refuse(layouts::TOO_LONG, at));
             }
             let len = n as usize;
             let start = at + 8;
             let left = s.len() - start;
             if left < len {
-                return Text::Bad {
-                    which: layouts::CUT_SHORT,
-                    place: start,
-                };
+                return Text::Bad(layouts::refuse(layouts::CUT_SHORT, start));
             }
             let pad = padding(len);
             if left - len < pad {
@@ -114,30 +97,21 @@ pub fn text_at(s: &[u8], at: usize) -> Text
 }
 
 pub fn chunk_at(s: &[u8], at: usize) -> Chunk
-    ensures { λ r. ⌜ chunkRead r ≡ chunkOf (length (now (s .entry))) (numberAt (now (s .entry)) at) at ⌝ }
+    ensures { λ r. ⌜ r ≡ chunkFound (chunkOf (length (now (s .entry))) (numberAt (now (s .entry)) at) at) ⌝ }
 {
     match number_at(s, at) {
-        Number::Short => Chunk::Wrong {
-            which: layouts::CUT_SHORT,
-            place: at,
-        },
+        Number::Short => Chunk::Wrong(layouts::refuse(layouts::CUT_SHORT, at)),
         Number::Value(n) => {
             let body = at + 8;
             if n == 0 {
                 return Chunk::Last(body);
             }
             if MAX_WIRE_STRING_LEN < n {
-                return Chunk::Wrong {
-                    which: layouts::TOO_LONG,
-                    place: at,
-                };
+                return Chunk::Wrong(layouts::refuse(layouts::TOO_LONG, at));
             }
             let len = n as usize;
             if s.len() - body < len {
-                return Chunk::Wrong {
-                    which: layouts::CUT_SHORT,
-                    place: body,
-                };
+                return Chunk::Wrong(layouts::refuse(layouts::CUT_SHORT, body));
             }
             let next = body + len;
             Chunk::Part {
@@ -170,23 +144,14 @@ pub fn string_at(s: &[u8], at: usize, decoded: bool) -> Judged
             if is_fine(s, start, len, decoded) {
                 return Judged::Fine { start, len, next };
             }
-            Judged::Refused {
-                which: layouts::BAD_TEXT,
-                place: start,
-            }
+            Judged::Refused(layouts::refuse(layouts::BAD_TEXT, start))
         }
         Text::Half { start, len } => {
             if is_fine(s, start, len, decoded) {
-                return Judged::Refused {
-                    which: layouts::CUT_SHORT,
-                    place: start + len,
-                };
+                return Judged::Refused(layouts::refuse(layouts::CUT_SHORT, start + len));
             }
-            Judged::Refused {
-                which: layouts::BAD_TEXT,
-                place: start,
-            }
+            Judged::Refused(layouts::refuse(layouts::BAD_TEXT, start))
         }
-        Text::Bad { which, place } => Judged::Refused { which, place },
+        Text::Bad(r) => Judged::Refused(r),
     }
 }

@@ -9,6 +9,7 @@ use borrow.Fn.Kinds.{Dens, endedOf}
 use denote.Triple.Clauses.{AtExit}
 use denote.Ref.{now}
 use Rattle.layouts.specs.declared.Record.{Record}
+use Rattle.layouts.specs.declared.Refusal.{Refusal}
 use Rattle.layouts.specs.Primitive.{Version, version, Result, ok, refused}
 use Rattle.layouts.specs.Shape.{Tree}
 use Rattle.layouts.specs.Pieces.{Pieces, run, totalOf}
@@ -63,10 +64,10 @@ module _ (κs : Lfts 3) (a : Dens κs read-op-args-kinds.ps) (r : C.Answer) (x :
   abbrev argumentsSaid : Result Answer
   argumentsSaid = readOpArgs (a .0) (version (a .1 .0) (a .1 .1 .0)) (now (a .1 .1 .1 .0)) (length (now (a .1 .1 .1 .1 .0)) / 2) (length (now (a .1 .1 .1 .1 .1 .0)))
 
-  pub arguments-refused : (which place stream : ℕ) → r .outcome ≡ Refused which place stream
+  pub arguments-refused : (y : Refusal) → r .outcome ≡ Refused y
       → (now (x .1 .1 .1 .1 .0) ≡ now (a .1 .1 .1 .1 .0)) × (now (x .1 .1 .1 .1 .1 .0) ≡ now (a .1 .1 .1 .1 .1 .0))
-  arguments-refused which place stream f =
-      (refused-keeps r argumentsSaid (p .0) which place stream f _ _ _ (p .1 .0), refused-keeps r argumentsSaid (p .0) which place stream f _ _ _ (p .1 .1))
+  arguments-refused y f =
+      (refused-keeps r argumentsSaid (p .0) y f _ _ _ (p .1 .0), refused-keeps r argumentsSaid (p .0) y f _ _ _ (p .1 .1))
 
   pub arguments-written : r .outcome ≡ Fine
       → (drop (2 * r .found .entries) (now (x .1 .1 .1 .1 .0)) ≡ drop (2 * r .found .entries) (now (a .1 .1 .1 .1 .0))) ×
@@ -85,10 +86,10 @@ module _ (κs : Lfts 3) (a : Dens κs read-daemon-result-kinds.ps) (r : C.Answer
   abbrev replySaid : Result Answer
   replySaid = readDaemonResult (a .0) (version (a .1 .0) (a .1 .1 .0)) (now (a .1 .1 .1 .0)) (length (now (a .1 .1 .1 .1 .0)) / 2) (length (now (a .1 .1 .1 .1 .1 .0)))
 
-  pub reply-refused : (which place stream : ℕ) → r .outcome ≡ Refused which place stream
+  pub reply-refused : (y : Refusal) → r .outcome ≡ Refused y
       → (now (x .1 .1 .1 .1 .0) ≡ now (a .1 .1 .1 .1 .0)) × (now (x .1 .1 .1 .1 .1 .0) ≡ now (a .1 .1 .1 .1 .1 .0))
-  reply-refused which place stream f =
-      (refused-keeps r replySaid (p .0) which place stream f _ _ _ (p .1 .0), refused-keeps r replySaid (p .0) which place stream f _ _ _ (p .1 .1))
+  reply-refused y f =
+      (refused-keeps r replySaid (p .0) y f _ _ _ (p .1 .0), refused-keeps r replySaid (p .0) y f _ _ _ (p .1 .1))
 
   pub reply-written : r .outcome ≡ Fine
       → (drop (2 * r .found .entries) (now (x .1 .1 .1 .1 .0)) ≡ drop (2 * r .found .entries) (now (a .1 .1 .1 .1 .0))) ×

@@ -1,22 +1,32 @@
 -- The calls by operation: what the row of the table says is what `layouts` says, and an unknown number is refused.
 use Prim.Native.Nat.{ℕ}
-use mathlib.Core.Path.{_≡_, refl, sym, _∙_, ap}
-use mathlib.Core.List.{List, [], _∷_, _++_}
-use mathlib.Core.Bool.{Bool}
-use lib.ListN.{length, getD, drop}
+use mathlib.Core.Path.{_≡_, sym, _∙_, ap}
+use mathlib.Core.List.{List, []}
+use mathlib.Core.Bool.{Bool, false}
+use lib.ListN.{getD, replicate}
+use Rattle.layouts.specs.declared.Refusal.{Refusal}
 use Rattle.layouts.specs.Primitive.{Version, Result, ok, refused}
-use Rattle.layouts.specs.Shape.{Tree, fail, layout, Group}
+use Rattle.layouts.specs.Refusal.{plain, refusedBy}
+use Rattle.layouts.specs.Shape.{asNumber, Tree, ask, stop, fail, layout}
 use Rattle.layouts.specs.Pieces.{Pieces, run, skipOf}
 use Rattle.layouts.specs.Record.{blank}
-use Rattle.layouts.specs.Judge.{judgeOf, entriesOf, payloadOf, lentAfter}
+use Rattle.layouts.specs.Judge.{Ended, judgeOf, entriesOf, payloadOf, lentAfter}
 use Rattle.layouts.specs.Operations.{Kinds, kindOf}
-use Rattle.layouts.specs.Calls.{Answer, answered, readOf, entriesAfter, payloadAfter}
-use Rattle.table.specs.Table.{kindNumbered}
+use Rattle.layouts.specs.Calls.{Answer, peekNumber, readOf, entriesAfter, payloadAfter}
+use Rattle.number.specs.declared.Number.{Number}
+use Rattle.number.specs.declared.Number.the-variants.{Value, Short}
+use Rattle.pieces.specs.Pieces.{numRead}
+use Rattle.pieces.proofs.Nodes.{ask-cut, ask-found}
+use Rattle.table.specs.Table.{groupsAt, kindNumbered}
+use Rattle.items.specs.Items.{versionOf, firstOf, layoutTree, piecesOf}
+use Rattle.judge.specs.declared.Outcome.the-variants.{Fine}
+use Rattle.judge.specs.declared.Said.{Said}
+use Rattle.judge.specs.declared.Said.the-variants as S
 use Rattle.judge.specs.declared.Answer as C
-use Rattle.judge.specs.Judged.{answerAs}
+use Rattle.judge.specs.Judged.{answerOf, answerAs, endedAs, windowAfter}
 use Rattle.protocol.specs.declared.Arguments.{Arguments}
-use Rattle.reading.specs.Reading.{answeredAs}
-use Rattle.reading.proofs.Filled.{answered-by, lent-by}
+use Rattle.reading.specs.Reading.{readBy, answeredAs}
+use Rattle.reading.proofs.Filled.{answered-by, lent-by, refused-is, fine-is, first-in}
 use Rattle.protocol.specs.Protocol.{argumentsAs}
 
 module _ (v : Version) (k : Kinds) (slots room : ℕ) (s : List ℕ) (t : Tree) where
@@ -26,64 +36,85 @@ module _ (v : Version) (k : Kinds) (slots room : ℕ) (s : List ℕ) (t : Tree) 
     unfolding run judgeOf
     unknown-is = rw e
 
-    pub unknown-answer : (a : C.Answer) → a ≡ answerAs (refused 9 0 0) → a ≡ answerAs (readOf v k slots room s t)
-    unknown-answer a q = q ∙ ap answerAs (sym unknown-is)
+    pub unknown-answer : (a : C.Answer) (r : Refusal) → a ≡ answerAs (refusedBy r) → r ≡ plain 9 0 → a ≡ answerAs (readOf v k slots room s t)
+    unknown-answer a r q p = q ∙ ap (λ (x : Refusal). answerAs (refusedBy x)) p ∙ ap answerAs (sym unknown-is)
 
     pub unknown-lent : (new lent : List ℕ) → lent ≡ lentAfter (readOf v k slots room s t) new lent
     unknown-lent new lent = ap (λ (o : Result Answer). lentAfter o new lent) (sym unknown-is)
 
-    pub unknown-skip : refused 9 0 0 ≡ skipOf (run t s 0)
+    pub unknown-skip : (r : Refusal) → r ≡ plain 9 0 → refusedBy r ≡ skipOf (run t s 0)
     unfolding run skipOf
-    unknown-skip = rw e
+    unknown-skip r p = rw (p, e)
 
-  module _ (gs : List Group) (e : t ≡ layout v gs) where
-    pub row-skip : skipOf (run (layout v gs) s 0) ≡ skipOf (run t s 0)
-    row-skip = ap (λ (x : Tree). skipOf (run x s 0)) (sym e)
+  -- the layout of a row
+  module _ (l i : ℕ) (p : versionOf l ≡ v) (j : firstOf l ≡ i) (e : t ≡ layout v (groupsAt i)) where
+    tree-is : layoutTree l ≡ t
+    tree-is = ap (λ (x : Version). layout x (groupsAt (firstOf l))) p ∙ ap (λ (n : ℕ). layout v (groupsAt n)) j ∙ sym e
+
+    pub row-skip : skipOf (piecesOf l s 0) ≡ skipOf (run t s 0)
+    row-skip = ap (λ (x : Tree). skipOf (run x s 0)) tree-is
 
     module _ (c : ℕ) (q : (b : Bool) → kindOf v b k ≡ kindNumbered v b c) where
-      row-is : answeredAs v c (judgeOf s slots room blank (run (layout v gs) s 0)) ≡ readOf v k slots room s t
+      row-is : answeredAs (versionOf l) c (readBy l s slots room) ≡ readOf v k slots room s t
       row-is =
-          answered-by v k c q (judgeOf s slots room blank (run (layout v gs) s 0)) ∙
-          ap (λ (x : Tree). answered v k (judgeOf s slots room blank (run x s 0))) (sym e)
+          ap (λ (x : Version). answeredAs x c (readBy l s slots room)) p ∙ ap (λ (x : Tree). answeredAs v c (judgeOf s slots room blank (run x s 0))) tree-is
+          ∙ answered-by v k c q (judgeOf s slots room blank (run t s 0))
 
-      pub row-answer : (a : C.Answer) → a ≡ answerAs (answeredAs v c (judgeOf s slots room blank (run (layout v gs) s 0))) → a ≡ answerAs (readOf v k slots room s t)
+      pub row-answer : (a : C.Answer) → a ≡ answerAs (answeredAs (versionOf l) c (readBy l s slots room)) → a ≡ answerAs (readOf v k slots room s t)
       row-answer a h = h ∙ ap answerAs row-is
 
-      module _ (lent out : List ℕ) where
-        pub row-lent : (f : Pieces → List ℕ) → out ≡ lentAfter (judgeOf s slots room blank (run (layout v gs) s 0)) (f (run (layout v gs) s 0)) lent
-            → out ≡ lentAfter (readOf v k slots room s t) (f (run t s 0)) lent
-        row-lent f h =
-            h ∙ lent-by v k c q (judgeOf s slots room blank (run (layout v gs) s 0)) (f (run (layout v gs) s 0)) lent ∙
-            ap (λ (x : Tree). lentAfter (readOf v k slots room s x) (f (run x s 0)) lent) (sym e)
+      pub row-arguments : (a : Arguments) → a ≡ argumentsAs (answeredAs (versionOf l) c (readBy l s slots room)) (entriesOf (piecesOf l s 0)) → a ≡ argumentsAs (readOf v k slots room s t) (entriesOf (run t s 0))
+      row-arguments a h = h ∙ ap (λ (o : Result Answer). argumentsAs o (entriesOf (piecesOf l s 0))) row-is ∙ ap (λ (x : Tree). argumentsAs (readOf v k slots room s t) (entriesOf (run x s 0))) tree-is
 
-        pub row-entries : out ≡ lentAfter (judgeOf s slots room blank (run (layout v gs) s 0)) (entriesOf (run (layout v gs) s 0)) lent
-            → out ≡ entriesAfter (readOf v k slots room s t) (run t s 0) lent
+      module _ (lent out : List ℕ) where
+        pub row-lent : (f : Pieces → List ℕ) → out ≡ lentAfter (readBy l s slots room) (f (piecesOf l s 0)) lent → out ≡ lentAfter (readOf v k slots room s t) (f (run t s 0)) lent
+        row-lent f h =
+            h ∙ ap (λ (x : Tree). lentAfter (judgeOf s slots room blank (run x s 0)) (f (run x s 0)) lent) tree-is ∙
+            lent-by v k c q (judgeOf s slots room blank (run t s 0)) (f (run t s 0)) lent
+
+        pub row-entries : out ≡ lentAfter (readBy l s slots room) (entriesOf (piecesOf l s 0)) lent → out ≡ entriesAfter (readOf v k slots room s t) (run t s 0) lent
         row-entries h = row-lent entriesOf h
 
-        pub row-payload : out ≡ lentAfter (judgeOf s slots room blank (run (layout v gs) s 0)) (payloadOf s (run (layout v gs) s 0)) lent
-            → out ≡ payloadAfter (readOf v k slots room s t) s (run t s 0) lent
+        pub row-payload : out ≡ lentAfter (readBy l s slots room) (payloadOf s (piecesOf l s 0)) lent → out ≡ payloadAfter (readOf v k slots room s t) s (run t s 0) lent
         row-payload h = row-lent (payloadOf s) h
 
--- ---- skipped arguments: the one entry is lent two numbers 0
-first-kept : (es : List ℕ) → getD (es ++ drop (length es) (0 ∷ 0 ∷ [])) 0 0 ≡ getD es 0 0
-first-kept [] = refl
-first-kept (x ∷ es) = refl
+-- ---- skipped arguments: the one entry is the first of the window
+module _ (l c : ℕ) (s : List ℕ) where
+  abbrev skippedBy : Arguments
+  skippedBy = argumentsAs (answeredAs (versionOf l) c (readBy l s 1 0)) (entriesOf (piecesOf l s 0))
 
-second-kept : (es : List ℕ) → getD (es ++ drop (length es) (0 ∷ 0 ∷ [])) 1 0 ≡ getD es 1 0
-second-kept [] = refl
-second-kept (x ∷ []) = refl
-second-kept (x ∷ y ∷ es) = refl
+  module _ (a : Said) (ns cs : List ℕ) (j : answerOf a ns cs ≡ answerAs (endedAs (readBy l s 1 0))) where
+    pub skipped-refused : (r : Refusal) (y : Arguments) → a ≡ S.Refused r → y ≡ argumentsAs (refusedBy r) [] → y ≡ skippedBy
+    skipped-refused r y q e = e ∙ ap (λ (o : Result Ended). argumentsAs (answeredAs (versionOf l) c o) (entriesOf (piecesOf l s 0))) (sym (refused-is l s 1 0 c a ns cs j r q))
 
-abbrev argumentsOf : C.Answer → (entry : List ℕ) → Arguments
-argumentsOf a out =
-    record { outcome = a .outcome; kind = a .kind; ends = a .ends; count = getD (a .found .numbers) 0 0; start = getD out 0 0; len = getD out 1 0 }
+    pub skipped-fine : (kind ends ends2 n p : ℕ) (b : Bool) → a ≡ S.Fine kind ends ends2 n p b → (w : List ℕ) → w ≡ windowAfter a (replicate 16 0) 0 (entriesOf (piecesOf l s 0)) → (k : ℕ) → k ≡ kindNumbered (versionOf l) b c
+        → record { outcome = Fine; kind = k; ends = ends; count = getD ns 0 0; start = getD w 0 0; len = getD w 1 0 } ≡ skippedBy
+    skipped-fine kind ends ends2 n p b q w e k g =
+        let f = first-in (entriesOf (piecesOf l s 0)) w (e ∙ ap (λ (y : Said). windowAfter y (replicate 16 0) 0 (entriesOf (piecesOf l s 0))) q) in
+        rw (f .0, f .1, g) (ap (λ (o : Result Ended). argumentsAs (answeredAs (versionOf l) c o) (entriesOf (piecesOf l s 0))) (sym (fine-is l s 1 0 c a ns cs j kind ends ends2 n p b q)))
 
-arguments-by : (o : Result Answer) (es : List ℕ) → argumentsOf (answerAs o) (lentAfter o es (0 ∷ 0 ∷ [])) ≡ argumentsAs o es
-arguments-by (ok x) es = rw (first-kept es, second-kept es)
-arguments-by (refused which place stream) es = refl
+  -- a layout without fields
+  pub skipped-nothing : layoutTree l ≡ stop → (k : ℕ) → k ≡ kindNumbered (versionOf l) false c → record { outcome = Fine; kind = k; ends = 0; count = 0; start = 0; len = 0 } ≡ skippedBy
+  unfolding run judgeOf entriesOf
+  skipped-nothing z k g = rw g (ap (λ (t : Tree). argumentsAs (answeredAs (versionOf l) c (judgeOf s 1 0 blank (run t s 0))) (entriesOf (run t s 0))) (sym z))
 
-pub arguments-is : (o : Result Answer) (es : List ℕ) (a : C.Answer) (out : List ℕ) → a ≡ answerAs o → out ≡ lentAfter o es (0 ∷ 0 ∷ []) → argumentsOf a out ≡ argumentsAs o es
-arguments-is o es a out e h = ap (λ (x : C.Answer). argumentsOf x out) e ∙ ap (argumentsOf (answerAs o)) h ∙ arguments-by o es
+pub arguments-unknown : (o : Result Answer) (es : List ℕ) (a : Arguments) (r : Refusal) → o ≡ refused 9 0 0 → r ≡ plain 9 0 → a ≡ argumentsAs (refusedBy r) [] → a ≡ argumentsAs o es
+arguments-unknown o es a r e p q = q ∙ ap (λ (x : Refusal). argumentsAs (refusedBy x) []) p ∙ ap (λ (x : Result Answer). argumentsAs x es) (sym e)
 
-pub arguments-unknown : (o : Result Answer) (es : List ℕ) → o ≡ refused 9 0 0 → argumentsAs (refused 9 0 0) es ≡ argumentsAs o es
-arguments-unknown o es e = ap (λ (x : Result Answer). argumentsAs x es) (sym e)
+-- ---- a reply that is passed over without a fold
+module _ (l : ℕ) (s : List ℕ) where
+  pub brief-nothing : layoutTree l ≡ stop → ok 0 ≡ skipOf (piecesOf l s 0)
+  unfolding run skipOf
+  brief-nothing z = ap (λ (t : Tree). skipOf (run t s 0)) (sym z)
+
+  module _ (z : layoutTree l ≡ ask (asNumber 0) (λ n. stop)) (m : Number) (e : numRead m ≡ peekNumber s 0) where
+    as-number : skipOf (piecesOf l s 0) ≡ skipOf (run (ask (asNumber 0) (λ n. stop)) s 0)
+    as-number = ap (λ (t : Tree). skipOf (run t s 0)) z
+
+    pub brief-short : (r : Refusal) → r ≡ plain 1 0 → m ≡ Short → refusedBy r ≡ skipOf (piecesOf l s 0)
+    unfolding skipOf
+    brief-short r p q = ap (λ (x : Refusal). refusedBy x) p ∙ sym (as-number ∙ ap skipOf (ask-cut s 0 m e q (asNumber 0) (λ n. stop)))
+
+    pub brief-number : (n : ℕ) → m ≡ Value n → ok 8 ≡ skipOf (piecesOf l s 0)
+    unfolding skipOf run
+    brief-number n q = sym (as-number ∙ ap skipOf (ask-found s 0 m e n q (asNumber 0) (λ n. stop)))

@@ -3,6 +3,7 @@ use Prim.Native.Nat.{ℕ, _/_}
 use mathlib.Core.List.{List}
 use lib.ListN.{length, getD}
 use Rattle.layouts.specs.Primitive.{Version, Result, ok, refused}
+use Rattle.layouts.specs.Refusal.{refusal}
 use Rattle.layouts.specs.Calls.{Answer, readOpArgs, readDaemonResult}
 use Rattle.judge.specs.declared.Outcome.the-variants.{Fine, Refused}
 use Rattle.protocol.specs.declared.Arguments.{Arguments}
@@ -18,4 +19,4 @@ replyRead op v s entries payload = readDaemonResult op v s (length entries / 2) 
 abbrev pub argumentsAs : Result Answer → (entries : List ℕ) → Arguments
 argumentsAs (ok x) es =
     record { outcome = Fine; kind = x .kind; ends = x .ends; count = getD (x .found .numbers) 0 0; start = getD es 0 0; len = getD es 1 0 }
-argumentsAs (refused which place stream) es = record { outcome = Refused which place stream; kind = 0; ends = 0; count = 0; start = 0; len = 0 }
+argumentsAs (refused which place stream) es = record { outcome = Refused (refusal which place stream); kind = 0; ends = 0; count = 0; start = 0; len = 0 }

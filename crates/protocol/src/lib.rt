@@ -1,17 +1,25 @@
 // Arguments and replies by operation, under the names of nix-wire's protocol.rs. Each call takes the part of the stream that starts where the last one
 // ended.
 ghost use mathlib.Core.Path.{_≡_};
+ghost use mathlib.Core.List.{[]};
 ghost use lib.ListN.{length};
 ghost use Rattle.layouts.specs.Primitive.{version};
-ghost use Rattle.layouts.specs.Pieces.{run};
+ghost use Rattle.layouts.specs.Refusal.{refusedBy};
+ghost use Rattle.layouts.specs.Pieces.{run, skipOf};
 ghost use Rattle.layouts.specs.Judge.{entriesOf};
 ghost use Rattle.layouts.specs.Calls.{argumentsTree, skippedTree, replyTree, skipOpArgs, skipDaemonResult, entriesAfter, payloadAfter};
+ghost use Rattle.items.specs.Items.{versionOf, piecesOf};
 ghost use Rattle.judge.specs.Judged.{answerAs};
+ghost use Rattle.reading.specs.Reading.{readBy, answeredAs};
 ghost use Rattle.skip.specs.Skipped.{skipped};
 ghost use Rattle.protocol.specs.Protocol.{argumentsRead, replyRead, argumentsAs};
+use items::Brief;
 use items::Layout;
 use judge::Answer;
 use judge::Outcome;
+use judge::Said;
+use layouts::Refusal;
+use number::Number;
 use operations::Shape;
 use skip::Skipped;
 
@@ -39,14 +47,10 @@ pub fn read_op_args(
 {
     let f = operations::arguments(op);
     match f {
-        Shape::Unknown => judge::refused_answer(layouts::UNKNOWN_OPERATION, 0),
+        Shape::Unknown => judge::refused_answer(layouts::refuse(layouts::UNKNOWN_OPERATION, 0)),
         Shape::At { first, kind } => reading::read_words(
             s,
-            Layout {
-                major,
-                minor,
-                first,
-            },
+            items::layout(major, minor, first),
             kind,
             entries,
             payload,
@@ -54,47 +58,80 @@ pub fn read_op_args(
     }
 }
 
+fn refused_arguments(refusal: Refusal) -> Arguments
+    ensures { λ r. ⌜ r ≡ argumentsAs (refusedBy refusal) [] ⌝ }
+{
+    Arguments {
+        outcome: Outcome::Refused(refusal),
+        kind: 0,
+        ends: 0,
+        count: 0,
+        start: 0,
+        len: 0,
+    }
+}
+
+// A layout that keeps one string at most: it is the first of the window.
+fn skip_layout(s: &[u8], layout: Layout, code: u8) -> Arguments
+    ensures { λ r. ⌜ r ≡ argumentsAs (answeredAs (versionOf layout) code (readBy layout (now (s .entry)) 1 0)) (entriesOf (piecesOf layout (now (s .entry)) 0)) ⌝ }
+{
+    let mut numbers = [0u64; 12];
+    let mut counts = [0u64; 3];
+    let mut window = [0u64; 16];
+    let a = judge::judge(
+        s,
+        0,
+        layout,
+        1,
+        0,
+        0,
+        0,
+        false,
+        &mut numbers,
+        &mut counts,
+        &mut window,
+    );
+    match a {
+        Said::Refused(r) => refused_arguments(r),
+        Said::Fine {
+            kind: _,
+            ends,
+            ends2: _,
+            entries: _,
+            payload: _,
+            present,
+        } => Arguments {
+            outcome: Outcome::Fine,
+            kind: kinds::kind_of(code, items::spoken(layout), present),
+            ends,
+            count: numbers[0],
+            start: window[0],
+            len: window[1],
+        },
+    }
+}
+
 // Stops before framed data, and checks the text of no string but the one that it answers.
 pub fn skip_op_args(op: u64, major: u16, minor: u8, s: &[u8]) -> Arguments
     ensures { λ r. ⌜ r ≡ argumentsAs (skipOpArgs op (version major minor) (now (s .entry))) (entriesOf (run (skippedTree op (version major minor)) (now (s .entry)) 0)) ⌝ }
 {
-    let mut entry: [u64; 2] = [0u64; 2];
     let f = operations::skipped(op);
     match f {
-        Shape::Unknown => Arguments {
-            outcome: Outcome::Refused {
-                which: layouts::UNKNOWN_OPERATION,
-                place: 0,
-                stream: 0,
-            },
-            kind: 0,
-            ends: 0,
-            count: 0,
-            start: 0,
-            len: 0,
-        },
+        Shape::Unknown => refused_arguments(layouts::refuse(layouts::UNKNOWN_OPERATION, 0)),
         Shape::At { first, kind } => {
-            let mut nothing: [u8; 0] = [];
-            let r = reading::read_words(
-                s,
-                Layout {
-                    major,
-                    minor,
-                    first,
+            let layout = items::layout(major, minor, first);
+            let b = items::in_brief(layout);
+            match b {
+                Brief::Nothing => Arguments {
+                    outcome: Outcome::Fine,
+                    kind: kinds::kind_of(kind, items::spoken(layout), false),
+                    ends: 0,
+                    count: 0,
+                    start: 0,
+                    len: 0,
                 },
-                kind,
-                &mut entry,
-                &mut nothing,
-            );
-            let o = r.outcome;
-            let found = r.found;
-            Arguments {
-                outcome: o,
-                kind: r.kind,
-                ends: r.ends,
-                count: found.numbers[0],
-                start: entry[0],
-                len: entry[1],
+                Brief::Number => skip_layout(s, layout, kind),
+                Brief::Longer => skip_layout(s, layout, kind),
             }
         }
     }
@@ -114,18 +151,32 @@ pub fn read_daemon_result(
 {
     let f = operations::reply(op);
     match f {
-        Shape::Unknown => judge::refused_answer(layouts::UNKNOWN_OPERATION, 0),
+        Shape::Unknown => judge::refused_answer(layouts::refuse(layouts::UNKNOWN_OPERATION, 0)),
         Shape::At { first, kind } => reading::read_words(
             s,
-            Layout {
-                major,
-                minor,
-                first,
-            },
+            items::layout(major, minor, first),
             kind,
             entries,
             payload,
         ),
+    }
+}
+
+// The layout at the start of the stream; one without fields, or of one number, needs no fold.
+fn skip_brief(s: &[u8], layout: Layout) -> Skipped
+    ensures { λ r. ⌜ skipped r ≡ skipOf (piecesOf layout (now (s .entry)) 0) ⌝ }
+{
+    let b = items::in_brief(layout);
+    match b {
+        Brief::Nothing => Skipped::Past(0),
+        Brief::Number => {
+            let m = pieces::number_at(s, 0);
+            match m {
+                Number::Short => Skipped::Refused(layouts::refuse(layouts::CUT_SHORT, 0)),
+                Number::Value(_) => Skipped::Past(8),
+            }
+        }
+        Brief::Longer => skip::skip(s, 0, layout),
     }
 }
 
@@ -135,18 +186,7 @@ pub fn skip_daemon_result(op: u64, major: u16, minor: u8, s: &[u8]) -> Skipped
 {
     let f = operations::reply(op);
     match f {
-        Shape::Unknown => Skipped::Refused {
-            which: layouts::UNKNOWN_OPERATION,
-            place: 0,
-        },
-        Shape::At { first, kind: _ } => skip::skip(
-            s,
-            0,
-            Layout {
-                major,
-                minor,
-                first,
-            },
-        ),
+        Shape::Unknown => Skipped::Refused(layouts::refuse(layouts::UNKNOWN_OPERATION, 0)),
+        Shape::At { first, kind: _ } => skip_brief(s, items::layout(major, minor, first)),
     }
 }

@@ -1,15 +1,16 @@
 -- A judged layout, filled: what it reports fits, and is what `layouts` says of lent memory.
-use Prim.Native.Nat.{ℕ, _+_, _*_, _/_, _≤_}
+use Prim.Native.Nat.{ℕ, _+_, _*_, _/_, _≤_, min}
 use mathlib.Core.Path.{_≡_, refl, sym, _∙_, ap, subst}
 use mathlib.Core.List.{List, [], _∷_, _++_, append-nil}
-use mathlib.Core.Bool.{Bool, false}
+use mathlib.Core.Bool.{Bool}
 use native.Mathlib.Omega.{arith}
-use lib.ListN.{length, drop, replicate}
-use lib.Seq.{sets, sets-eq}
+use lib.ListN.{length, getD, take, drop, replicate, length-take}
+use lib.Seq.{sets, sets-eq, length-sets, take-all, take-append-seam}
 use Rattle.layouts.specs.declared.Record.{Record}
+use Rattle.layouts.specs.declared.Refusal.{Refusal}
 use Rattle.layouts.specs.Primitive.{Version, Result, ok, refused}
-use Rattle.layouts.specs.Shape.{Tree, stop}
-use Rattle.layouts.specs.Pieces.{Pieces, end, run, totalOf}
+use Rattle.layouts.specs.Refusal.{refusedBy}
+use Rattle.layouts.specs.Pieces.{Pieces, totalOf}
 use Rattle.layouts.specs.Record.{blank}
 use Rattle.layouts.specs.Judge.{Ended, judgeOf, entriesOf, payloadOf, lentAfter}
 use Rattle.layouts.specs.Soft.{keptOf}
@@ -18,26 +19,55 @@ use Rattle.layouts.specs.Calls.{Answer, answered}
 use Rattle.layouts.proofs.Judge.{Read, judge-read, record-room, entries-length, payload-length}
 use Rattle.layouts.proofs.Placed.{run-placed}
 use Rattle.table.specs.Table.{kindNumbered}
-use Rattle.items.specs.declared.Layout.{Layout}
-use Rattle.items.specs.Items.{versionOf, layoutTree, piecesOf}
+use Rattle.items.specs.declared.Brief.{Brief}
+use Rattle.items.specs.Items.{versionOf, layoutTree, piecesOf, Briefly}
 use Rattle.judge.specs.declared.Said.{Said}
 use Rattle.judge.specs.declared.Said.the-variants as S
 use Rattle.judge.specs.declared.Answer as C
-use Rattle.judge.specs.Judged.{gathered, answerOf, answerAs, endedAs}
+use Rattle.judge.specs.Judged.{gathered, answerOf, answerAs, endedAs, inWindow, windowAfter}
 use Rattle.judge.proofs.Answers.{said-fine, said-refused, ended-fine, ended-refused}
 use Rattle.output.specs.Numbers.{bytesOf}
-use Rattle.output.proofs.Numbers.{bytes-none, bytes-length}
-use Rattle.fill.specs.Fill.{Put}
-use Rattle.reading.specs.Reading.{readBy, answeredAs, slotsIn, filledAfter, NoneReported}
+use Rattle.output.proofs.Numbers.{bytes-length}
+use Rattle.reading.specs.Reading.{readBy, answeredAs, slotsIn, filledAfter, Planned}
 
 none-there : (xs : List ℕ) → length xs ≡ 0 → xs ≡ []
 none-there [] e = refl
 none-there (x ∷ xs) e = absurd (omega arith)
 
+-- as many entries as a window holds stand at its front
+in-window : (es : List ℕ) (n : ℕ) (w : List ℕ) → length es ≡ 2 * n → n ≤ 8 → w ≡ inWindow (replicate 16 0) 0 es → take (2 * n) w ≡ es
+in-window es n w c h e =
+    let a : take 16 es ≡ es = take-all 16 es (omega arith) in
+    ap (take (2 * n)) (e ∙ ap (sets (replicate 16 0) 0) a ∙ sets-eq es (replicate 16 0) 0 (omega arith))
+    ∙ ap (λ (k : ℕ). take k (es ++ drop (0 + length es) (replicate 16 0))) (sym c)
+    ∙ take-append-seam es (drop (0 + length es) (replicate 16 0))
+
+window-is : (es : List ℕ) → inWindow (replicate 16 0) 0 es ≡ take 16 es ++ drop (0 + length (take 16 es)) (replicate 16 0)
+window-is es = sets-eq (take 16 es) (replicate 16 0) 0 (simp length-take (omega arith))
+
+first-by : (es : List ℕ) → getD (take 16 es ++ drop (0 + length (take 16 es)) (replicate 16 0)) 0 0 ≡ getD es 0 0
+first-by [] = refl
+first-by (x ∷ es) = refl
+
+second-by : (es : List ℕ) → getD (take 16 es ++ drop (0 + length (take 16 es)) (replicate 16 0)) 1 0 ≡ getD es 1 0
+second-by [] = refl
+second-by (x ∷ []) = refl
+second-by (x ∷ y ∷ es) = refl
+
+-- the first entry of a window
+pub first-in : (es w : List ℕ) → w ≡ inWindow (replicate 16 0) 0 es → (getD w 0 0 ≡ getD es 0 0) × (getD w 1 0 ≡ getD es 1 0)
+first-in es w e = (ap (λ (x : List ℕ). getD x 0 0) (e ∙ window-is es) ∙ first-by es, ap (λ (x : List ℕ). getD x 1 0) (e ∙ window-is es) ∙ second-by es)
+
 -- ---- the judgement of a layout
-module _ (l : Layout) (s : List ℕ) (slots room : ℕ) (c : ℕ) where
+module _ (l : ℕ) (s : List ℕ) (slots room : ℕ) (c : ℕ) where
   abbrev said : Result Ended
   said = readBy l s slots room
+
+  -- lent rooms, and what they are afterwards
+  abbrev Lent : (words bytes payload ws bs ps : List ℕ) → Type 0
+  Lent words bytes payload ws bs ps =
+      (ws ≡ filledAfter said (entriesOf (piecesOf l s 0)) words) ×
+      ((bs ≡ filledAfter said (bytesOf (entriesOf (piecesOf l s 0))) bytes) × (ps ≡ filledAfter said (payloadOf s (piecesOf l s 0)) payload))
 
   module _ (x : Ended) (e : said ≡ ok x) where
     reads : Read slots room blank (piecesOf l s 0) x
@@ -55,58 +85,59 @@ module _ (l : Layout) (s : List ℕ) (slots room : ℕ) (c : ℕ) where
         let n = payload-length s (run-placed (layoutTree l) s 0 (omega arith)) in
         omega (arith, g)
 
-    reported : NoneReported (x .found .entries) (x .found .payload) s (piecesOf l s 0)
-    reported =
+    counted : length (entriesOf (piecesOf l s 0)) ≡ 2 * (x .found .entries)
+    counted =
         let n = entries-length (piecesOf l s 0) in
-        let m = payload-length s (run-placed (layoutTree l) s 0 (omega arith)) in
         let k : x .found .entries ≡ 0 + keptOf (piecesOf l s 0) = ap (λ (r : Record). r .entries) (reads .holds) ∙ record-room blank (piecesOf l s 0) .0 in
+        omega arith
+
+    totalled : length (payloadOf s (piecesOf l s 0)) ≡ x .found .payload
+    totalled =
+        let m = payload-length s (run-placed (layoutTree l) s 0 (omega arith)) in
         let t : x .found .payload ≡ 0 + totalOf (piecesOf l s 0) = ap (λ (r : Record). r .payload) (reads .holds) ∙ record-room blank (piecesOf l s 0) .1 in
-        record { strings = λ z. none-there (entriesOf (piecesOf l s 0)) (omega arith); chunks = λ z. none-there (payloadOf s (piecesOf l s 0)) (omega arith) }
+        omega arith
 
-  -- a layout without fields
-  module _ (z : layoutTree l ≡ stop) where
-    nothing-is : said ≡ ok (record { found = blank; ends = 0 })
-    unfolding run judgeOf
-    nothing-is = ap (λ (t : Tree). judgeOf s slots room blank (run t s 0)) z
-
-    pub read-nothing : (k : ℕ) → k ≡ kindNumbered (versionOf l) false c → answerOf (S.Fine k 0 0 0 0 false) (replicate 12 0) (replicate 3 0) ≡ answerAs (answeredAs (versionOf l) c said)
-    read-nothing k e = ap (λ (x : ℕ). answerOf (S.Fine x 0 0 0 0 false) (replicate 12 0) (replicate 3 0)) e ∙ ap (λ (o : Result Ended). answerAs (answeredAs (versionOf l) c o)) (sym nothing-is)
-
-    pub nothing-filled : (f : Pieces → List ℕ) → f (end 0) ≡ [] → (lent : List ℕ) → lent ≡ filledAfter said (f (piecesOf l s 0)) lent
-    unfolding run
-    nothing-filled f e lent =
-        ap (sets lent 0) (sym (ap (λ (t : Tree). f (run t s 0)) z ∙ e)) ∙ ap (λ (o : Result Ended). filledAfter o (f (piecesOf l s 0)) lent) (sym nothing-is)
-
-    pub nothing-lent : (words bytes payload : List ℕ)
-        → (words ≡ filledAfter said (entriesOf (piecesOf l s 0)) words) ×
-        ((bytes ≡ filledAfter said (bytesOf (entriesOf (piecesOf l s 0))) bytes) × (payload ≡ filledAfter said (payloadOf s (piecesOf l s 0)) payload))
-    unfolding entriesOf payloadOf
-    nothing-lent words bytes payload =
-        (nothing-filled entriesOf refl words, (nothing-filled (λ p. bytesOf (entriesOf p)) bytes-none bytes, nothing-filled (payloadOf s) refl payload))
+    planned : (w : List ℕ) → w ≡ inWindow (replicate 16 0) 0 (entriesOf (piecesOf l s 0)) → Planned w (x .found .entries) (x .found .payload) s (piecesOf l s 0)
+    planned w e =
+        let c = counted in
+        let t = totalled in
+        record {
+          wide = ap length e ∙ length-sets (replicate 16 0) 0 (take 16 (entriesOf (piecesOf l s 0)));
+          kept = λ h. in-window (entriesOf (piecesOf l s 0)) (x .found .entries) w c h e;
+          chunks = λ z. none-there (payloadOf s (piecesOf l s 0)) (omega arith);
+        }
 
   module _ (a : Said) (ns cs : List ℕ) (j : answerOf a ns cs ≡ answerAs (endedAs said)) where
-    module _ (which place stream : ℕ) (q : a ≡ S.Refused which place stream) where
-      refused-is : said ≡ refused which place stream
-      refused-is = ended-refused said which place stream (said-refused a ns cs (endedAs said) j which place stream q)
+    module _ (r : Refusal) (q : a ≡ S.Refused r) where
+      pub refused-is : said ≡ refusedBy r
+      refused-is = ended-refused said (r .which) (r .place) (r .stream) (said-refused a ns cs (endedAs said) j r q)
 
       pub read-refused : answerOf a ns cs ≡ answerAs (answeredAs (versionOf l) c said)
       read-refused = j ∙ ap (λ (o : Result Ended). answerAs (endedAs o)) refused-is ∙ ap (λ (o : Result Ended). answerAs (answeredAs (versionOf l) c o)) (sym refused-is)
 
-      pub lent-kept : (new lent : List ℕ) → lent ≡ filledAfter said new lent
+      lent-kept : (new lent : List ℕ) → lent ≡ filledAfter said new lent
       lent-kept new lent = ap (λ (o : Result Ended). filledAfter o new lent) (sym refused-is)
 
+      pub all-kept : (words bytes payload : List ℕ) → Lent words bytes payload words bytes payload
+      all-kept words bytes payload = (lent-kept _ words, (lent-kept _ bytes, lent-kept _ payload))
+
     module _ (kind ends ends2 n p : ℕ) (b : Bool) (q : a ≡ S.Fine kind ends ends2 n p b) where
-      fine-is : said ≡ ok (record { found = gathered ns cs b n p; ends = ends })
+      pub fine-is : said ≡ ok (record { found = gathered ns cs b n p; ends = ends })
       fine-is = ended-fine said _ (said-fine a ns cs (endedAs said) j kind ends ends2 n p b q)
 
-      pub none-reported : NoneReported n p s (piecesOf l s 0)
-      none-reported = reported (record { found = gathered ns cs b n p; ends = ends }) fine-is
+      pub fine-planned : (w : List ℕ) → w ≡ windowAfter a (replicate 16 0) 0 (entriesOf (piecesOf l s 0)) → Planned w n p s (piecesOf l s 0)
+      fine-planned w h = planned (record { found = gathered ns cs b n p; ends = ends }) fine-is w (h ∙ ap (λ (y : Said). windowAfter y (replicate 16 0) 0 (entriesOf (piecesOf l s 0))) q)
 
       pub read-fine : (k : ℕ) → k ≡ kindNumbered (versionOf l) b c → answerOf (S.Fine k ends 0 n p b) ns cs ≡ answerAs (answeredAs (versionOf l) c said)
       read-fine k e = ap (λ (x : ℕ). answerOf (S.Fine x ends 0 n p b) ns cs) e ∙ ap (λ (o : Result Ended). answerAs (answeredAs (versionOf l) c o)) (sym fine-is)
 
-      pub lent-filled : (new lent out : List ℕ) → out ≡ sets lent 0 new → out ≡ filledAfter said new lent
+      lent-filled : (new lent out : List ℕ) → out ≡ sets lent 0 new → out ≡ filledAfter said new lent
       lent-filled new lent out h = h ∙ ap (λ (o : Result Ended). filledAfter o new lent) (sym fine-is)
+
+      pub all-filled : (words bytes payload ws bs ps : List ℕ)
+          → (ws ≡ sets words 0 (entriesOf (piecesOf l s 0))) × ((bs ≡ sets bytes 0 (bytesOf (entriesOf (piecesOf l s 0)))) × (ps ≡ sets payload 0 (payloadOf s (piecesOf l s 0))))
+          → Lent words bytes payload ws bs ps
+      all-filled words bytes payload ws bs ps h = (lent-filled _ words ws (h .0), (lent-filled _ bytes bs (h .1 .0), lent-filled _ payload ps (h .1 .1)))
 
 -- ---- what fits is all there
 fitting : {A : Type 0} (o : Result A) (new lent : List ℕ) → ((x : A) → o ≡ ok x → length new ≤ length lent) → filledAfter o new lent ≡ lentAfter o new lent
@@ -117,7 +148,7 @@ fitting (ok x) new lent h =
 fitting (refused which place stream) new lent h = refl
 
 -- with one of the two rooms for entries
-module _ (l : Layout) (s payload : List ℕ) (c : ℕ) where
+module _ (l : ℕ) (s payload : List ℕ) (c : ℕ) where
   abbrev all : ℕ → Result Ended
   all slots = readBy l s slots (length payload)
 
@@ -156,19 +187,20 @@ module _ (l : Layout) (s payload : List ℕ) (c : ℕ) where
     bytes-payload out h =
         h ∙ ap (λ (n : ℕ). filledAfter (all n) (payloadOf s (piecesOf l s 0)) payload) bytes-only ∙ fitting (all (length bytes / 16)) _ payload (λ x q. payload-fits l s (length bytes / 16) (length payload) 0 x q)
 
--- ---- the filler: where nothing is reported, nothing is there
-pub put-sets : (lent : List ℕ) (new out : List ℕ) (k : ℕ) → Put lent 0 new out k → out ≡ sets lent 0 new
-put-sets lent new out k p = p .then [] ∙ ap (sets lent 0) (append-nil new)
-
-module _ (entries total : ℕ) (s : List ℕ) (p : Pieces) (h : NoneReported entries total s p) (a : entries ≤ 0) (b : total ≤ 0) where
-  pub no-words : (lent : List ℕ) → lent ≡ sets lent 0 (entriesOf p)
-  no-words lent = ap (sets lent 0) (sym (h .strings (omega arith)))
-
-  pub no-bytes : (lent : List ℕ) → lent ≡ sets lent 0 (bytesOf (entriesOf p))
-  no-bytes lent = ap (sets lent 0) (sym (ap bytesOf (h .strings (omega arith)) ∙ bytes-none))
+-- ---- the filler
+module _ (w : List ℕ) (entries total : ℕ) (s : List ℕ) (p : Pieces) (h : Planned w entries total s p) (a : total ≤ 0) (b : entries ≤ 8) where
+  pub from-window : (f : List ℕ → List ℕ) (lent out : List ℕ) → out ≡ sets lent 0 (f (take (2 * min entries (length w / 2)) w)) → out ≡ sets lent 0 (f (entriesOf p))
+  from-window f lent out e =
+      let d = h .wide in
+      let k : min entries (length w / 2) ≡ entries = omega arith in
+      e ∙ ap (λ (n : ℕ). sets lent 0 (f (take (2 * n) w))) k ∙ ap (λ (x : List ℕ). sets lent 0 (f x)) (h .kept b)
 
   pub no-payload : (lent : List ℕ) → lent ≡ sets lent 0 (payloadOf s p)
   no-payload lent = ap (sets lent 0) (sym (h .chunks (omega arith)))
+
+-- ---- a layout that needs no fold, for one who has matched on it
+pub brief-is : (l : ℕ) (x y : Brief) → Briefly (layoutTree l) x → x ≡ y → Briefly (layoutTree l) y
+brief-is l x y h q = subst (Briefly (layoutTree l)) q h
 
 -- ---- kinds by their code
 module _ (v : Version) (k : Kinds) (c : ℕ) (e : (b : Bool) → kindOf v b k ≡ kindNumbered v b c) where

@@ -1,7 +1,6 @@
 // A layout from the start of the stream, by the row of an operation: judged first, without a write to the rooms, and only then filled in, so a refusal changes
 // no lent memory. Entries go into a room of numbers or into one of bytes: the other one is lent empty.
 ghost use mathlib.Core.Path.{_≡_};
-ghost use mathlib.Core.List.{[]};
 ghost use Prim.Native.Nat.{_/_};
 ghost use lib.ListN.{length};
 ghost use lib.Seq.{sets};
@@ -9,34 +8,36 @@ ghost use Rattle.layouts.specs.Judge.{entriesOf, payloadOf, lentAfter};
 ghost use Rattle.items.specs.Items.{versionOf, piecesOf};
 ghost use Rattle.output.specs.Numbers.{bytesOf};
 ghost use Rattle.judge.specs.Judged.{answerOf, answerAs};
-ghost use Rattle.reading.specs.Reading.{readBy, answeredAs, slotsIn, filledAfter, NoneReported};
+ghost use Rattle.reading.specs.Reading.{readBy, answeredAs, slotsIn, filledAfter, Planned};
 use items::Layout;
 use judge::Answer;
 use judge::Said;
 
-// Where nothing is reported nothing is filled in.
+// Where the window has all entries, and there is no payload, the layout is not gone through again.
 fn fill_in(
     s: &[u8],
     layout: Layout,
     entries: usize,
     total: usize,
+    window: &[u64; 16],
     words: &mut [u64],
     bytes: &mut [u8],
     payload: &mut [u8],
 )
-    requires { ⌜ NoneReported entries total (now s) (piecesOf layout (now s) 0) ⌝ }
+    requires { ⌜ Planned (now window) entries total (now s) (piecesOf layout (now s) 0) ⌝ }
     ensures words { λ r. ⌜ now (words .exit) ≡ sets (now (words .entry)) 0 (entriesOf (piecesOf layout (now (s .entry)) 0)) ⌝ }
     ensures bytes { λ r. ⌜ now (bytes .exit) ≡ sets (now (bytes .entry)) 0 (bytesOf (entriesOf (piecesOf layout (now (s .entry)) 0))) ⌝ }
     ensures payload { λ r. ⌜ now (payload .exit) ≡ sets (now (payload .entry)) 0 (payloadOf (now (s .entry)) (piecesOf layout (now (s .entry)) 0)) ⌝ }
 {
-    if 0 < entries {
-        fill::fill(s, 0, layout, words, 0, bytes, 0, payload);
-        return;
-    }
     if 0 < total {
         fill::fill(s, 0, layout, words, 0, bytes, 0, payload);
         return;
     }
+    if judge::WINDOW < entries {
+        fill::fill(s, 0, layout, words, 0, bytes, 0, payload);
+        return;
+    }
+    rooms::put_window(window, entries, words, bytes);
 }
 
 // The kind of the answer is by its code. What does not fit into a room falls away.
@@ -57,16 +58,7 @@ fn read(
 {
     *numbers = [0u64; 12];
     *counts = [0u64; 3];
-    if items::is_empty(layout) {
-        return Said::Fine {
-            kind: kinds::kind_of(code, layout.major, layout.minor, false),
-            ends: 0,
-            ends2: 0,
-            entries: 0,
-            payload: 0,
-            present: false,
-        };
-    }
+    let mut window = [0u64; 16];
     let slots = words.len() / 2 + bytes.len() / 16;
     let a = judge::judge(
         s,
@@ -79,13 +71,10 @@ fn read(
         false,
         numbers,
         counts,
+        &mut window,
     );
     match a {
-        Said::Refused {
-            which: _,
-            place: _,
-            stream: _,
-        } => a,
+        Said::Refused(_) => a,
         Said::Fine {
             kind: _,
             ends,
@@ -94,9 +83,9 @@ fn read(
             payload: total,
             present,
         } => {
-            fill_in(s, layout, entries, total, words, bytes, payload);
+            fill_in(s, layout, entries, total, &window, words, bytes, payload);
             Said::Fine {
-                kind: kinds::kind_of(code, layout.major, layout.minor, present),
+                kind: kinds::kind_of(code, items::spoken(layout), present),
                 ends,
                 ends2: 0,
                 entries,

@@ -1,6 +1,7 @@
 // Writes strings, a set and framed data, reads them back, and says what came back. A string of 268,435,456 bytes does not fit in a test's memory;
 // the theorems speak of it, and here a string of 1 MiB is run.
 ghost use Prim.Native.Nat.{_≤_};
+use layouts::Refusal;
 use wire::Cursor;
 use wire::Read;
 use wire::Spanned;
@@ -19,10 +20,10 @@ fn number(n: u64) {
     say(b" ");
 }
 
-fn refused(which: u64, place: usize) {
+fn refused(r: Refusal) {
     say(b"refused ");
-    number(which);
-    number(place as u64);
+    number(r.which);
+    number(r.place as u64);
     say(b"\n");
 }
 
@@ -66,8 +67,8 @@ fn written(w: Written) -> usize {
             number(n as u64);
             n
         }
-        Written::Refused { which, place } => {
-            refused(which, place);
+        Written::Refused(r) => {
+            refused(r);
             0
         }
     }
@@ -92,7 +93,7 @@ fn string_back(s: &[u8], c: &[u8]) {
             }
             say(b"\n");
         }
-        Spanned::Refused { which, place } => refused(which, place),
+        Spanned::Refused(r) => refused(r),
     }
 }
 
@@ -143,7 +144,7 @@ fn a_set() {
             io::write_all(1, views::entry(&out, &found, 1));
             say(b"\n");
         }
-        Read::Refused { which, place } => refused(which, place),
+        Read::Refused(r) => refused(r),
     }
     say(b"the same, from the stream and its entries: ");
     let mut again = [0xFFu8; 40];
@@ -171,7 +172,7 @@ fn framed() {
             number(differences(&c, &back));
             say(b"\n");
         }
-        Read::Refused { which, place } => refused(which, place),
+        Read::Refused(r) => refused(r),
     }
 }
 
@@ -182,7 +183,7 @@ fn a_large_count() {
     let start = Cursor { at: 0 };
     match start.read_string_set(b"\xFF\xFF\xFF\xFF\xFF\xFF\xFF\xFF", &mut none) {
         Read::Value { value, next: _ } => number(value),
-        Read::Refused { which, place } => refused(which, place),
+        Read::Refused(r) => refused(r),
     }
 }
 

@@ -6,7 +6,9 @@ use native.Mathlib.Nat.{add-zero, add-suc, suc-add}
 use native.Mathlib.Omega.{arith}
 use lib.ListN.{length, set, take, drop, length-append, length-take, length-drop, drop-of-length-le}
 use lib.Seq.{sets, sets-eq, take-all, length-sets, drop-drop}
-use Rattle.layouts.specs.Primitive.{Result, ok, refused}
+use Rattle.layouts.specs.Primitive.{Result, ok}
+use Rattle.layouts.specs.declared.Refusal.{Refusal}
+use Rattle.layouts.specs.Refusal.{refusedBy}
 use Rattle.layouts.specs.Judge.{lentAfter}
 use Rattle.runs.specs.Runs.{fronted}
 use Rattle.pieces.proofs.Numbers.{part-tail}
@@ -66,8 +68,8 @@ part-back out s ys n start len h g e =
 
 -- the contract's words
 module _ {A : Type 0} (o : Result A) (new lent : List ℕ) where
-  pub lent-kept : (which place : ℕ) → refused which place 0 ≡ o → lent ≡ lentAfter o new lent
-  lent-kept which place e = rw (← e)
+  pub lent-kept : (r : Refusal) → refusedBy r ≡ o → lent ≡ lentAfter o new lent
+  lent-kept r e = rw (← e)
 
   pub lent-fronted : (a : A) (es out : List ℕ) → ok a ≡ o → new ≡ es → out ≡ fronted es lent → out ≡ lentAfter o new lent
   lent-fronted a es out e q h = rw (← e, q) h

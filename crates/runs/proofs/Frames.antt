@@ -9,6 +9,8 @@ use native.Mathlib.Omega.{arith}
 use native.Mathlib.Decide.{decLe}
 use Rattle.layouts.specs.declared.Record.{Record}
 use Rattle.layouts.specs.Primitive.{numberAt, Result, ok, refused, onward}
+use Rattle.layouts.specs.declared.Refusal.{Refusal}
+use Rattle.layouts.specs.Refusal.{plain, refusedBy}
 use Rattle.layouts.specs.Shape.{Tree, framed, frames, stop}
 use Rattle.layouts.specs.Pieces.{Pieces, Chunk, part, chunkOf, afterChunk, chunks, end, run, skipOf, totalOf}
 use Rattle.layouts.specs.Record.{blank, withNumber, withPayload}
@@ -20,10 +22,10 @@ use Rattle.layouts.proofs.Placed.{Placed, on-number, on-text, on-half, on-chunk
 use Rattle.layouts.proofs.Judge.{payload-length, judge-read}
 use Rattle.pieces.specs.declared.Chunk as C
 use Rattle.pieces.specs.declared.Chunk.the-variants.{Part, Last, Wrong}
-use Rattle.pieces.specs.Pieces.{chunkRead}
+use Rattle.pieces.specs.Pieces.{chunkFound}
 use Rattle.pieces.proofs.Fields.{field-framed}
 use Rattle.pieces.proofs.Numbers.{as-told}
-use Rattle.pieces.proofs.Found.{chunk-known}
+use Rattle.pieces.proofs.Found.{chunkRead, chunk-told, wrong-plain, chunk-known}
 use Rattle.runs.specs.declared.Total.{Total}
 use Rattle.runs.specs.declared.Total.the-variants as T
 use Rattle.runs.specs.Runs as R
@@ -48,12 +50,12 @@ frames-by s at (too-large h l) = frames-long s at (numberAt s at) refl (λ u. st
 frames-by s at (no-bytes h z l c) = frames-cut s at (numberAt s at) refl (λ u. stop) h z l c
 frames-by s at (is-part h z l) = frames-part s at (numberAt s at) refl (λ u. stop) h z l
 
-module _ (s : List ℕ) (at : ℕ) (r : C.Chunk) (e : chunkRead r ≡ chunkOf (length s) (numberAt s at) at) where
+module _ (s : List ℕ) (at : ℕ) (r : C.Chunk) (e : r ≡ chunkFound (chunkOf (length s) (numberAt s at) at)) where
   frames-on : (r' : C.Chunk) → r ≡ r' → framesFrom s at ≡ after s (chunkRead r')
-  frames-on r' q = frames-by s at (chunk-view (length s) (numberAt s at) at) ∙ ap (after s) (sym (as-told chunkRead q e))
+  frames-on r' q = frames-by s at (chunk-view (length s) (numberAt s at) at) ∙ ap (after s) (sym (chunk-told s at r e r' q))
 
   pub part-known : (start len next : ℕ) → r ≡ Part start len next → (start ≡ at + 8) × (next ≡ start + len) × (next ≤ length s)
-  part-known start len next q = chunk-known (length s) (numberAt s at) at (part start len next) (as-told chunkRead q e)
+  part-known start len next q = chunk-known (length s) (numberAt s at) at (part start len next) (chunk-told s at r e _ q)
 
 -- ---- each way through the loop that judges: so much is there before the chunk
 unfoldable pub framesJudged : List ℕ → (room total at : ℕ) → Result Ended
@@ -64,27 +66,27 @@ unfolding framesJudged
 frames-all s room at = rw field-framed
 
 module _ (s : List ℕ) (room total at : ℕ) (x : Result Ended) (v : framesJudged s room total at ≡ x)
-    (r : C.Chunk) (e : chunkRead r ≡ chunkOf (length s) (numberAt s at) at) where
+    (r : C.Chunk) (e : r ≡ chunkFound (chunkOf (length s) (numberAt s at) at)) where
   judged-on : (r' : C.Chunk) → r ≡ r' → judgeOf s 0 room (withPayload blank total) (after s (chunkRead r')) ≡ x
   unfolding framesJudged
   judged-on r' q = ap (judgeOf s 0 room (withPayload blank total)) (sym (frames-on s at r e r' q)) ∙ v
 
-  pub frames-fault : (which place : ℕ) → r ≡ Wrong which place → refused which place 0 ≡ x
+  pub frames-fault : (y : Refusal) → r ≡ Wrong y → refusedBy y ≡ x
   unfolding afterChunk judgeOf
-  frames-fault which place q = judged-on (Wrong which place) q
+  frames-fault y q = rw (wrong-plain s at r e y q) (judged-on (Wrong y) q)
 
   pub frames-end : (next : ℕ) → r ≡ Last next → ok (record { found = withPayload blank total; ends = next }) ≡ x
   unfolding afterChunk judgeOf
   frames-end next q = judged-on (Last next) q
 
   module _ (h : total ≤ room) (start len next : ℕ) (q : r ≡ Part start len next) where
-    pub frames-full : room - total < len → refused 5 at 0 ≡ x
+    pub frames-full : room - total < len → (y : Refusal) → y ≡ plain 5 at → refusedBy y ≡ x
     unfolding afterChunk judgeOf chunkTaken
-    frames-full g =
+    frames-full g y p =
         let l : room < total + len = omega arith in
         let k = part-known s at r e start len next q .0 in
         let a : start - 8 ≡ at = omega arith in
-        rw (lt-leb (total + len) room l, a) at (judged-on (Part start len next) q)
+        rw p (rw (lt-leb (total + len) room l, a) at (judged-on (Part start len next) q))
 
     pub frames-next : len ≤ room - total → framesJudged s room (total + len) next ≡ x
     unfolding afterChunk judgeOf chunkTaken framesJudged
@@ -94,14 +96,14 @@ module _ (s : List ℕ) (room total at : ℕ) (x : Result Ended) (v : framesJudg
 
 -- ---- each way through the loop that fills
 module _ (s : List ℕ) (at : ℕ) (lent es₀ out : List ℕ) (n : ℕ) (v : Filling lent es₀ out n (payloadOf s (framesFrom s at)))
-    (r : C.Chunk) (e : chunkRead r ≡ chunkOf (length s) (numberAt s at) at) where
+    (r : C.Chunk) (e : r ≡ chunkFound (chunkOf (length s) (numberAt s at) at)) where
   pub payload-end : length es₀ ≤ length lent → (next : ℕ) → r ≡ Last next → out ≡ fronted es₀ lent
   unfolding afterChunk payloadOf
   payload-end l next q = filling-end v l (ap (payloadOf s) (frames-on s at r e (Last next) q))
 
-  pub payload-fault : length es₀ ≤ length lent → (which place : ℕ) → r ≡ Wrong which place → out ≡ fronted es₀ lent
+  pub payload-fault : length es₀ ≤ length lent → (y : Refusal) → r ≡ Wrong y → out ≡ fronted es₀ lent
   unfolding afterChunk payloadOf
-  payload-fault l which place q = filling-end v l (ap (payloadOf s) (frames-on s at r e (Wrong which place) q))
+  payload-fault l y q = filling-end v l (ap (payloadOf s) (frames-on s at r e (Wrong y) q))
 
   module _ (start len next : ℕ) (q : r ≡ Part start len next) where
     more : payloadOf s (framesFrom s at) ≡ take len (drop start s) ++ payloadOf s (framesFrom s next)
@@ -180,8 +182,8 @@ module _ (s : List ℕ) (at : ℕ) (lent : List ℕ) (r : Total) (e : R.totalOf 
   abbrev payload : List ℕ
   payload = payloadOf s (run (field framed) s at)
 
-  pub framed-refused : (which place : ℕ) → r ≡ T.Refused which place → (refused which place 0 ≡ answer) × (lent ≡ lentAfter answer payload lent)
-  framed-refused which place q = let t = as-told R.totalOf q e in (t, lent-kept answer payload lent which place t)
+  pub framed-refused : (y : Refusal) → r ≡ T.Refused y → (refusedBy y ≡ answer) × (lent ≡ lentAfter answer payload lent)
+  framed-refused y q = let t = as-told R.totalOf q e in (t, lent-kept answer payload lent y t)
 
   module _ (total next : ℕ) (q : r ≡ T.Bytes total next) where
     -- what was judged fits

@@ -10,6 +10,8 @@ use native.Mathlib.Omega.{arith}
 use borrow.Author.Tests.{le-leb, lt-leb}
 use Rattle.layouts.specs.declared.Record.{Record}
 use Rattle.layouts.specs.Primitive.{pick, numberAt, noEntryRoom, Result, ok, refused, onward}
+use Rattle.layouts.specs.declared.Refusal.{Refusal}
+use Rattle.layouts.specs.Refusal.{plain, refusedBy}
 use Rattle.layouts.specs.Shape.{kept, Tree, say, stop, strings, units}
 use Rattle.layouts.specs.Pieces.{Text, textOf, afterText, run}
 use Rattle.layouts.specs.Record.{blank, withEntries, entered}
@@ -20,8 +22,9 @@ use Rattle.pieces.specs.declared.Judged.{Judged}
 use Rattle.pieces.specs.declared.Judged.the-variants as J
 use Rattle.pieces.specs.declared.Text as T
 use Rattle.pieces.specs.declared.Text.the-variants.{Whole, Half, Bad}
-use Rattle.pieces.specs.Pieces.{Span, textRead, judgedRead, spanOf, stringAt}
+use Rattle.pieces.specs.Pieces.{Span, textFound, judgedRead, spanOf, stringAt}
 use Rattle.pieces.proofs.Numbers.{as-told}
+use Rattle.pieces.proofs.Found.{textRead, text-told}
 use Rattle.runs.specs.declared.Passed.{Passed}
 use Rattle.runs.specs.declared.Passed.the-variants as P
 use Rattle.runs.specs.Runs.{passedTo, stringsAt, setFrom, fronted}
@@ -45,12 +48,12 @@ module _ (s : List ℕ) (slots count : ℕ) where
           let k : suc (count - (i + 1)) ≡ count - i = omega arith in
           rw (as-told judgedRead q e) (ap (λ (n : ℕ). stringsAt s slots i n at) k ∙ v)
 
-      pub strings-fault : (which place : ℕ) → r ≡ J.Refused which place → refused which place 0 ≡ x
-      strings-fault which place q = strings-on (J.Refused which place) q
+      pub strings-fault : (y : Refusal) → r ≡ J.Refused y → refusedBy y ≡ x
+      strings-fault y q = strings-on (J.Refused y) q
 
       module _ (start len next : ℕ) (q : r ≡ J.Fine start len next) where
-        pub strings-full : slots ≤ i → refused 4 at 0 ≡ x
-        strings-full f = rw (le-leb slots i f) at (strings-on (J.Fine start len next) q)
+        pub strings-full : slots ≤ i → (y : Refusal) → y ≡ plain 4 at → refusedBy y ≡ x
+        strings-full f y p = rw p (rw (le-leb slots i f) at (strings-on (J.Fine start len next) q))
 
         pub strings-next : i < slots → stringsAt s slots (i + 1) (count - (i + 1)) next ≡ x
         strings-next f = rw (lt-leb slots i f) at (strings-on (J.Fine start len next) q)
@@ -104,20 +107,20 @@ module _ (s : List ℕ) (count i at : ℕ) (lent es₀ out : List ℕ) (n : ℕ)
   unfolding units run entriesOf
   entries-end l h = let k : count - i ≡ 0 = omega arith in filling-end v l (rw k)
 
-  module _ (h : i < count) (r : T.Text) (e : textRead r ≡ textOf (length s) (numberAt s at) at) where
+  module _ (h : i < count) (r : T.Text) (e : r ≡ textFound (textOf (length s) (numberAt s at) at)) where
     entries-on : (r' : T.Text) → r ≡ r' → entriesOf (setFrom s (count - i) at) ≡ entriesOf (afterText (textRead r') kept (λ a. setFrom s (count - (i + 1)) a))
     unfolding units strings run
     entries-on r' q =
         let k : count - i ≡ suc (count - (i + 1)) = omega arith in
-        rw (as-told textRead q e) (ap (λ (j : ℕ). entriesOf (setFrom s j at)) k)
+        rw (text-told s at r e r' q) (ap (λ (j : ℕ). entriesOf (setFrom s j at)) k)
 
     pub entries-half : length es₀ ≤ length lent → (start len : ℕ) → r ≡ Half start len → out ≡ fronted es₀ lent
     unfolding afterText entriesOf
     entries-half l start len q = filling-end v l (entries-on (Half start len) q)
 
-    pub entries-fault : length es₀ ≤ length lent → (which place : ℕ) → r ≡ Bad which place → out ≡ fronted es₀ lent
+    pub entries-fault : length es₀ ≤ length lent → (y : Refusal) → r ≡ Bad y → out ≡ fronted es₀ lent
     unfolding afterText entriesOf
-    entries-fault l which place q = filling-end v l (entries-on (Bad which place) q)
+    entries-fault l y q = filling-end v l (entries-on (Bad y) q)
 
     module _ (start len next : ℕ) (q : r ≡ Whole start len next) where
       more : entriesOf (setFrom s (count - i) at) ≡ start ∷ len ∷ entriesOf (setFrom s (count - (i + 1)) next)
@@ -142,8 +145,8 @@ module _ (s : List ℕ) (n at : ℕ) (lent : List ℕ) (r : Passed) (e : passedT
   abbrev entries : List ℕ
   entries = entriesOf (setFrom s n at)
 
-  pub set-refused : (which place : ℕ) → r ≡ P.Refused which place → (refused which place 0 ≡ answer) × (lent ≡ lentAfter answer entries lent)
-  set-refused which place q = let t = as-told passedTo q e in (t, lent-kept answer entries lent which place t)
+  pub set-refused : (y : Refusal) → r ≡ P.Refused y → (refusedBy y ≡ answer) × (lent ≡ lentAfter answer entries lent)
+  set-refused y q = let t = as-told passedTo q e in (t, lent-kept answer entries lent y t)
 
   module _ (next : ℕ) (q : r ≡ P.Past next) where
     -- what was judged fits

@@ -6,6 +6,7 @@ use borrow.Fn.Kinds.{Dens, endedOf}
 use denote.Triple.Clauses.{AtExit}
 use denote.Ref.{now}
 use Rattle.layouts.specs.Primitive.{Result, ok, refused}
+use Rattle.layouts.specs.Refusal.{refusal}
 use Rattle.layouts.specs.Judge.{Ended}
 use Rattle.pieces.proofs.Unique.{told}
 use Rattle.runs.specs.Runs.{passedTo, totalOf}
@@ -22,22 +23,22 @@ use Rattle.runs.proofs.read_frames.Kinds as read-frames-kinds
 
 abbrev passedOf : Result ℕ → Passed
 passedOf (ok next) = P.Past next
-passedOf (refused which place stream) = P.Refused which place
+passedOf (refused which place stream) = P.Refused (refusal which place stream)
 
 passed-back : (r : Passed) → passedOf (passedTo r) ≡ r
 passed-back (P.Past next) = refl
-passed-back (P.Refused which place) = refl
+passed-back (P.Refused r) = refl
 
 passed-told : {b : Result ℕ} (r r′ : Passed) → passedTo r ≡ b → passedTo r′ ≡ b → r ≡ r′
 passed-told = told passedTo passedOf passed-back
 
 abbrev totalFrom : Result Ended → Total
 totalFrom (ok x) = T.Bytes (x .found .payload) (x .ends)
-totalFrom (refused which place stream) = T.Refused which place
+totalFrom (refused which place stream) = T.Refused (refusal which place stream)
 
 total-back : (r : Total) → totalFrom (totalOf r) ≡ r
 total-back (T.Bytes total next) = refl
-total-back (T.Refused which place) = refl
+total-back (T.Refused r) = refl
 
 total-told : {b : Result Ended} (r r′ : Total) → totalOf r ≡ b → totalOf r′ ≡ b → r ≡ r′
 total-told = told totalOf totalFrom total-back

@@ -5,6 +5,7 @@ use mathlib.Core.Bool.{true}
 use lib.ListN.{length, drop}
 use lib.Dec.{leb}
 use Rattle.layouts.specs.Primitive.{pick, noEntryRoom, Result, ok, refused, onward}
+use Rattle.layouts.specs.Refusal.{refusedBy}
 use Rattle.layouts.specs.Shape.{kept, frames, stop, units}
 use Rattle.layouts.specs.Pieces.{Pieces, run}
 use Rattle.layouts.specs.Record.{blank, withPayload}
@@ -17,12 +18,12 @@ use Rattle.runs.specs.declared.Total.the-variants as T
 
 abbrev pub passedTo : Passed → Result ℕ
 passedTo (P.Past next) = ok next
-passedTo (P.Refused which place) = refused which place 0
+passedTo (P.Refused r) = refusedBy r
 
 -- so many bytes of payload
 abbrev pub totalOf : Total → Result Ended
 totalOf (T.Bytes total next) = ok (record { found = withPayload blank total; ends = next })
-totalOf (T.Refused which place) = refused which place 0
+totalOf (T.Refused r) = refusedBy r
 
 -- n strings of which i were before, and the place after them: 4 at the length of a string that has no slot
 unfoldable pub stringsAt : List ℕ → (slots i n at : ℕ) → Result ℕ

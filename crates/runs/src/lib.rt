@@ -10,6 +10,7 @@ ghost use Rattle.layouts.specs.Pieces.{run};
 ghost use Rattle.layouts.specs.Judge.{entriesOf, payloadOf, lentAfter};
 ghost use Rattle.layouts.specs.Calls.{field, readFramed};
 ghost use Rattle.runs.specs.Runs.{passedTo, totalOf, stringsAt, setFrom, framesFrom, fronted};
+use layouts::Refusal;
 use pieces::Chunk;
 use pieces::Judged;
 use pieces::Text;
@@ -17,13 +18,13 @@ use pieces::Text;
 // A run of strings, by the place after it.
 pub enum Passed {
     Past(usize),
-    Refused { which: u64, place: usize },
+    Refused(Refusal),
 }
 
 // Framed data, by the total of its chunks and the place after them.
 pub enum Total {
     Bytes { total: u64, next: usize },
-    Refused { which: u64, place: usize },
+    Refused(Refusal),
 }
 
 // So many strings that are text, judged one by one up to the first fault: a count that the stream cannot hold costs no time.
@@ -34,8 +35,8 @@ fn strings_at(s: &[u8], from: usize, count: u64, slots: u64) -> Passed
     let mut done: u64 = 0;
     while done < count {
         match pieces::string_at(s, at, true) {
-            Judged::Refused { which, place } => {
-                return Passed::Refused { which, place };
+            Judged::Refused(r) => {
+                return Passed::Refused(r);
             }
             Judged::Fine {
                 start: _,
@@ -43,10 +44,7 @@ fn strings_at(s: &[u8], from: usize, count: u64, slots: u64) -> Passed
                 next,
             } => {
                 if slots <= done {
-                    return Passed::Refused {
-                        which: layouts::NO_ENTRY_ROOM,
-                        place: at,
-                    };
+                    return Passed::Refused(layouts::refuse(layouts::NO_ENTRY_ROOM, at));
                 }
                 at = next;
                 done += 1;
@@ -70,10 +68,7 @@ pub fn frames_at(s: &[u8], from: usize, room: usize) -> Total
                 next,
             } => {
                 if room - total < len {
-                    return Total::Refused {
-                        which: layouts::NO_PAYLOAD_ROOM,
-                        place: at,
-                    };
+                    return Total::Refused(layouts::refuse(layouts::NO_PAYLOAD_ROOM, at));
                 }
                 total += len;
                 at = next;
@@ -84,8 +79,8 @@ pub fn frames_at(s: &[u8], from: usize, room: usize) -> Total
                     next,
                 };
             }
-            Chunk::Wrong { which, place } => {
-                return Total::Refused { which, place };
+            Chunk::Wrong(r) => {
+                return Total::Refused(r);
             }
         }
     }
@@ -118,7 +113,7 @@ fn fill_entries(s: &[u8], from: usize, count: u64, out: &mut [u64])
             Text::Half { start: _, len: _ } => {
                 return;
             }
-            Text::Bad { which: _, place: _ } => {
+            Text::Bad(_) => {
                 return;
             }
         }
@@ -151,7 +146,7 @@ fn join_frames(s: &[u8], from: usize, out: &mut [u8])
             Chunk::Last(_) => {
                 return;
             }
-            Chunk::Wrong { which: _, place: _ } => {
+            Chunk::Wrong(_) => {
                 return;
             }
         }
@@ -165,7 +160,7 @@ pub fn read_strings(s: &[u8], from: usize, count: u64, entries: &mut [u64]) -> P
 {
     let slots = (entries.len() / 2) as u64;
     match strings_at(s, from, count, slots) {
-        Passed::Refused { which, place } => Passed::Refused { which, place },
+        Passed::Refused(r) => Passed::Refused(r),
         Passed::Past(next) => {
             fill_entries(s, from, count, entries);
             Passed::Past(next)
@@ -179,7 +174,7 @@ pub fn read_frames(s: &[u8], from: usize, out: &mut [u8]) -> Total
     ensures room { λ r. ⌜ now (out .exit) ≡ lentAfter (readFramed (now (s .entry)) from (length (now (out .entry)))) (payloadOf (now (s .entry)) (run (field framed) (now (s .entry)) from)) (now (out .entry)) ⌝ }
 {
     match frames_at(s, from, out.len()) {
-        Total::Refused { which, place } => Total::Refused { which, place },
+        Total::Refused(r) => Total::Refused(r),
         Total::Bytes { total, next } => {
             join_frames(s, from, out);
             Total::Bytes { total, next }

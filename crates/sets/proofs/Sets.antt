@@ -13,6 +13,8 @@ use Rattle.text.specs.Rfc3629.{Judged}
 use Rattle.text.specs.Prefix.{isText}
 use Rattle.text.proofs.Meaning.{judged-is}
 use Rattle.layouts.specs.Primitive.{Result, ok, refused, onward, pick, numberBytes, badText}
+use Rattle.layouts.specs.declared.Refusal.{Refusal}
+use Rattle.layouts.specs.Refusal.{plain, refusedBy}
 use Rattle.layouts.specs.Judge.{lentAfter}
 use Rattle.layouts.specs.Writers.{slotsOf, viewOf, partOf, stringBytes, stringsBytes, setBytes, writing, textAt, textsFrom, textsOf, writeStringSet, outputOf}
 use Rattle.views.specs.Fault.{faultOf}
@@ -26,11 +28,11 @@ module _ (bytes es : List ℕ) (i : ℕ) where
   abbrev takenOf : Result (List ℕ) → Result ℕ
   takenOf v = onward (onward v (λ c. pick (isText c) (ok c) (refused badText i 0))) (λ c. ok (length (stringBytes c)))
 
-  pub entry-refused : (which place : ℕ) → refused which place 0 ≡ faultOf (viewOf bytes es i) → refused which place 0 ≡ entryTaken bytes es i
+  pub entry-refused : (r : Refusal) → refusedBy r ≡ faultOf (viewOf bytes es i) → refusedBy r ≡ entryTaken bytes es i
   unfolding textAt
-  entry-refused which place e = go (viewOf bytes es i) e
+  entry-refused r e = go (viewOf bytes es i) e
     where
-      go : (v : Result (List ℕ)) → refused which place 0 ≡ faultOf v → refused which place 0 ≡ takenOf v
+      go : (v : Result (List ℕ)) → refusedBy r ≡ faultOf v → refusedBy r ≡ takenOf v
       go (ok p) f = let z : _≡_ {A = ℕ} 0 1 = cc in absurd (omega arith)
       go (refused w p s) f = cc
 
@@ -42,9 +44,9 @@ module _ (bytes es : List ℕ) (i : ℕ) where
         go (ok p) e g = let t : isText c ≡ b = sym (judged-is x c j) ∙ f in rw (← g, t)
         go (refused w p s) e g = let z : _≡_ {A = ℕ} 0 1 = cc in absurd (omega arith)
 
-    pub entry-bad : (w : ℕ) → w ≡ 3 → x ≡ false → refused w i 0 ≡ entryTaken bytes es i
+    pub entry-bad : (w : ℕ) → w ≡ 3 → x ≡ false → (r : Refusal) → r ≡ plain w i → refusedBy r ≡ entryTaken bytes es i
     unfolding textAt
-    entry-bad w n f = rw n (sym (entry-by false f))
+    entry-bad w n f r q = rw (q, n) (sym (entry-by false f))
 
     pub entry-text : x ≡ true → (n : ℕ) → n ≡ length (stringBytes c) → ok n ≡ entryTaken bytes es i
     unfolding textAt
@@ -92,9 +94,9 @@ pub record Judging (bytes es : List ℕ) (count room total i : ℕ) : Type 0 whe
   pub within : i ≤ count
 
 module _ (bytes es : List ℕ) (count room : ℕ) where
-  pub judging-many : slotsOf es < count → refused 11 count 0 ≡ setJudged room (textsOf bytes es count)
+  pub judging-many : slotsOf es < count → (r : Refusal) → r ≡ plain 11 count → refusedBy r ≡ setJudged room (textsOf bytes es count)
   unfolding textsOf
-  judging-many h = simp (lt-leb count (slotsOf es) h)
+  judging-many h r e = simp (e, lt-leb count (slotsOf es) h)
 
   pub judging-start : count ≤ slotsOf es → Judging bytes es count room 8 0
   unfolding textsOf
@@ -112,12 +114,12 @@ module _ (bytes es : List ℕ) (count room : ℕ) where
         let w = simp (s, u) at (j .same) in
         record { same = rw g w; within = omega arith }
 
-    pub judging-refused : i < count → (r : Result ℕ) (which place : ℕ) → r ≡ entryTaken bytes es i → r ≡ refused which place 0
-        → refused which place 0 ≡ setJudged room (textsOf bytes es count)
+    pub judging-refused : i < count → (r : Result ℕ) (x : Refusal) → r ≡ entryTaken bytes es i → r ≡ refusedBy x
+        → refusedBy x ≡ setJudged room (textsOf bytes es count)
     unfolding setFrom
-    judging-refused h r which place e f =
+    judging-refused h r x e f =
         let s : count - i ≡ suc (count - (i + 1)) = omega arith in
-        let u : entryTaken bytes es i ≡ refused which place 0 = sym e ∙ f in
+        let u : entryTaken bytes es i ≡ refusedBy x = sym e ∙ f in
         simp (s, u) at (j .same)
 
     pub judging-end : count ≤ i → (r : Result ℕ) → r ≡ fitting total room → r ≡ setJudged room (textsOf bytes es count)
@@ -241,9 +243,9 @@ module _ (bytes es : List ℕ) (count : ℕ) (lent : List ℕ) (r : Result ℕ) 
   unfolding writeStringSet writing
   judged-answer = e
 
-  pub set-refused : (which place : ℕ) → r ≡ refused which place 0
-      → (refused which place 0 ≡ writeStringSet bytes es count lent) × (lent ≡ lentAfter (writeStringSet bytes es count lent) (outputOf (textsOf bytes es count)) lent)
-  set-refused which place f =
+  pub set-refused : (x : Refusal) → r ≡ refusedBy x
+      → (refusedBy x ≡ writeStringSet bytes es count lent) × (lent ≡ lentAfter (writeStringSet bytes es count lent) (outputOf (textsOf bytes es count)) lent)
+  set-refused x f =
       let w = sym f ∙ judged-answer in
       (w, ap (λ (x : Result ℕ). lentAfter x (outputOf (textsOf bytes es count)) lent) w)
 

@@ -4,19 +4,20 @@ use mathlib.Core.Path.{_≡_, sym, _∙_, ap, subst}
 use mathlib.Core.List.{List}
 use mathlib.Core.Bool.{Bool, true, false}
 use native.Mathlib.Omega.{arith}
-use Rattle.layouts.specs.Primitive.{Result, ok, refused}
+use Rattle.layouts.specs.Primitive.{Result, ok}
+use Rattle.layouts.specs.declared.Refusal.{Refusal}
+use Rattle.layouts.specs.Refusal.{refusedBy}
 use Rattle.layouts.specs.Shape.{Tree}
 use Rattle.layouts.specs.Pieces.{run, skipOf}
 use Rattle.strings.specs.Strings.{bare}
 use Rattle.strings.proofs.Rows.{skip-bare}
-use Rattle.items.specs.declared.Layout.{Layout}
 use Rattle.items.specs.declared.Item.{Item}
 use Rattle.items.specs.Items.{versionOf, layoutTree, piecesOf, restTree}
 use Rattle.passing.specs.declared.Stop.{Stop}
 use Rattle.passing.specs.declared.Stop.the-variants as S
 use Rattle.passing.specs.Passing.{stopTo, StopOn}
 
-module _ (s : List ℕ) (l : Layout) (at : ℕ) (f : Item) (b : restTree (versionOf l) (f .pc) (f .reps) (f .body) (f .run) tt ≡ layoutTree l) (r : Stop)
+module _ (s : List ℕ) (l : ℕ) (at : ℕ) (f : Item) (b : restTree (versionOf l) (f .pc) (f .reps) (f .body) (f .run) tt ≡ layoutTree l) (r : Stop)
     (h : bare false (run (restTree (versionOf l) (f .pc) (f .reps) (f .body) (f .run) tt) s at) ≡ stopTo false s (versionOf l) r) where
   stopped : (y : Stop) → r ≡ y → skipOf (stopTo false s (versionOf l) y) ≡ skipOf (piecesOf l s at)
   stopped y q =
@@ -27,9 +28,9 @@ module _ (s : List ℕ) (l : Layout) (at : ℕ) (f : Item) (b : restTree (versio
   unfolding skipOf
   skip-end e q = stopped (S.End e) q
 
-  pub skip-refused : (which place : ℕ) → r ≡ S.Refused which place → refused which place 0 ≡ skipOf (piecesOf l s at)
+  pub skip-refused : (fuel : ℕ) → StopOn false s fuel r → (x : Refusal) → r ≡ S.Refused x → refusedBy x ≡ skipOf (piecesOf l s at)
   unfolding skipOf
-  skip-refused which place q = stopped (S.Refused which place) q
+  skip-refused fuel o x q = let z : x .stream ≡ 0 = subst (StopOn false s fuel) q o in rw z (stopped (S.Refused x) q)
 
 pub none-stays : {A : Type 0} (s : List ℕ) (fuel : ℕ) (r : Stop) → StopOn false s fuel r → (a : ℕ) (f : Item) → r ≡ S.Stays a f → A
 none-stays s fuel r o a f q =

@@ -5,6 +5,7 @@ use contract.Lifetimes.{Lfts}
 use borrow.Fn.Kinds.{Dens, endedOf}
 use denote.Triple.Clauses.{AtExit}
 use Rattle.layouts.specs.Primitive.{Result, ok, refused}
+use Rattle.layouts.specs.Refusal.{refusal}
 use Rattle.skip.specs.declared.Skipped.{Skipped}
 use Rattle.skip.specs.declared.Skipped.the-variants as S
 use Rattle.skip.specs.Skipped.{skipped}
@@ -14,11 +15,11 @@ use Rattle.skip.proofs.skip.Kinds as skip-kinds
 -- an end or a refusal is told by its meaning
 abbrev skippedBy : Result ℕ → Skipped
 skippedBy (ok e) = S.Past e
-skippedBy (refused which place stream) = S.Refused which place
+skippedBy (refused which place stream) = S.Refused (refusal which place stream)
 
 skipped-back : (r : Skipped) → skippedBy (skipped r) ≡ r
 skipped-back (S.Past e) = refl
-skipped-back (S.Refused which place) = refl
+skipped-back (S.Refused r) = refl
 
 pub skipped-told : (r r′ : Skipped) → skipped r ≡ skipped r′ → r ≡ r′
 skipped-told r r′ e = sym (skipped-back r) ∙ ap skippedBy e ∙ skipped-back r′

@@ -4,11 +4,12 @@ ghost use Rattle.layouts.specs.Pieces.{skipOf};
 ghost use Rattle.items.specs.Items.{piecesOf};
 ghost use Rattle.skip.specs.Skipped.{skipped};
 use items::Layout;
+use layouts::Refusal;
 use passing::Stop;
 
 pub enum Skipped {
     Past(usize),
-    Refused { which: u64, place: usize },
+    Refused(Refusal),
 }
 
 // Where the layout ends that begins at a place of the stream. Nothing stays, so no item stops it.
@@ -20,6 +21,6 @@ pub fn skip(s: &[u8], from: usize, layout: Layout) -> Skipped
     match k {
         Stop::End(at) => Skipped::Past(at),
         Stop::Stays { at, item: _ } => Skipped::Past(at),
-        Stop::Refused { which, place } => Skipped::Refused { which, place },
+        Stop::Refused(r) => Skipped::Refused(r),
     }
 }

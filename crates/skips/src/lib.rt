@@ -60,16 +60,6 @@ pub fn skip_daemon_result(op: u64, major: u16, minor: u8, s: &[u8]) -> Answer
             ends2: 0,
             found: judge::empty(),
         },
-        Skipped::Refused { which, place } => Answer {
-            outcome: Outcome::Refused {
-                which,
-                place,
-                stream: 0,
-            },
-            kind: 0,
-            ends: 0,
-            ends2: 0,
-            found: judge::empty(),
-        },
+        Skipped::Refused(r) => judge::refused_answer(r),
     }
 }

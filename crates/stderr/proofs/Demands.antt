@@ -11,6 +11,7 @@ use contract.Lifetimes.{Lfts}
 use borrow.Fn.Kinds.{Dens, endedOf}
 use denote.Triple.Clauses.{AtExit}
 use denote.Ref.{now}
+use Rattle.layouts.specs.declared.Refusal.{Refusal}
 use Rattle.layouts.specs.declared.Record.{Record}
 use Rattle.layouts.specs.Primitive.{pick, Result, ok, refused, onward}
 use Rattle.layouts.specs.Pieces.{run, end}
@@ -58,8 +59,8 @@ module _ (κs : Lfts 2) (a : Dens κs read-stderr-with-error-kinds.ps) (r : Answ
   abbrev stderrSaid : Result L.Answer
   stderrSaid = readStderrWithError (now (a .0)) (length (now (a .1 .0)) / 2)
 
-  pub stderr-refused : (which place stream : ℕ) → r .outcome ≡ Refused which place stream → now (x .1 .0) ≡ now (a .1 .0)
-  stderr-refused which place stream f = refused-keeps r stderrSaid (p .0) which place stream f _ _ _ (p .1)
+  pub stderr-refused : (y : Refusal) → r .outcome ≡ Refused y → now (x .1 .0) ≡ now (a .1 .0)
+  stderr-refused y f = refused-keeps r stderrSaid (p .0) y f _ _ _ (p .1)
 
   pub stderr-written : r .outcome ≡ Fine → drop (2 * r .found .entries) (now (x .1 .0)) ≡ drop (2 * r .found .entries) (now (a .1 .0))
   unfolding readStderrWithError

@@ -7,7 +7,9 @@ use lib.ListN.{length}
 use lib.Dec.{leb}
 use borrow.Author.Tests.{le-leb, lt-leb}
 use native.Mathlib.Omega.{arith}
-use Rattle.layouts.specs.Primitive.{numberAt, version, Result, refused, onward}
+use Rattle.layouts.specs.Primitive.{numberAt, version, Result, onward}
+use Rattle.layouts.specs.declared.Refusal.{Refusal}
+use Rattle.layouts.specs.Refusal.{refusedBy}
 use Rattle.layouts.specs.Shape.{layout}
 use Rattle.layouts.specs.Pieces.{Num, value, short, run, skipOf}
 use Rattle.layouts.specs.Calls.{peekNumber}
@@ -25,6 +27,8 @@ use Rattle.codes.specs.declared.stderr.StderrFound.the-variants.{Code, None}
 use Rattle.codes.specs.Stderr.{codeNumber, codeOf}
 use Rattle.codes.proofs.Messages.{has-number, no-code}
 use Rattle.table.specs.Table.{groupsAt}
+use Rattle.items.specs.Items.{versionOf, firstOf, layoutPieces, piecesOf}
+use Rattle.items.proofs.Trees.{pieces-of}
 use Rattle.skip.specs.declared.Skipped.{Skipped}
 use Rattle.skip.specs.declared.Skipped.the-variants as S
 use Rattle.skip.specs.Skipped.{skipped}
@@ -107,13 +111,17 @@ module _ (s : List ℕ) (at m : ℕ) (g : Going s at m) (r : Peeked) (e : peeked
       unfolding afterPeek
       last-message f = turn-as Terminal f
 
-      module _ (i : ℕ) (f : x ≡ Goes i) (k : Skipped) (o : skipped k ≡ skipOf (run (layout (version 0 0) (groupsAt i)) s (at + 8))) where
+      module _ (i : ℕ) (f : x ≡ Goes i) (l : ℕ) (w : (versionOf l ≡ version 0 0) × (firstOf l ≡ i)) (k : Skipped)
+          (z : skipped k ≡ skipOf (piecesOf l s (at + 8))) where
+        o : skipped k ≡ skipOf (layoutPieces (version 0 0) i s (at + 8))
+        o = z ∙ ap skipOf (pieces-of l (version 0 0) i w s (at + 8))
+
         skips : (y : Skipped) → k ≡ y → onward (skipped y) (λ e. stderrFrom (length s) s e (m + 1)) ≡ stderrLoop s
         unfolding afterPeek
         skips y p = ap (λ (z : Result ℕ). onward z (λ e. stderrFrom (length s) s e (m + 1))) (sym (ap skipped p) ∙ o) ∙ turn-as (Goes i) f
 
-        pub cut-message : (which place : ℕ) → k ≡ S.Refused which place → refused which place 0 ≡ stderrLoop s
-        cut-message which place p = skips (S.Refused which place) p
+        pub cut-message : (y : Refusal) → k ≡ S.Refused y → refusedBy y ≡ stderrLoop s
+        cut-message y p = skips (S.Refused y) p
 
         pub past-message : (next : ℕ) → k ≡ S.Past next → (at + 8 ≤ next) × (next ≤ length s)
         past-message next p = ends next (run-placed (layout (version 0 0) (groupsAt i)) s (at + 8) there) (sym o ∙ ap skipped p)

@@ -12,10 +12,10 @@ ghost use Rattle.judge.specs.Judged.{answerAs};
 ghost use Rattle.stderr.specs.Loop.{said, stoppedAs, recordFor};
 use codes::stderr::StderrCode;
 use codes::stderr::StderrFound;
-use items::Layout;
 use judge::Answer;
 use judge::Outcome;
 use layouts::Record;
+use layouts::Refusal;
 use skip::Skipped;
 use wire::Cursor;
 use wire::Peeked;
@@ -24,7 +24,7 @@ use wire::Peeked;
 enum Message {
     NoCode,
     Terminal,
-    Goes(usize),
+    Goes(u8),
 }
 
 // How many messages, the terminal code or 0, and where the loop stops.
@@ -34,10 +34,7 @@ enum Stopped {
         code: u64,
         ends: usize,
     },
-    Refused {
-        which: u64,
-        place: usize,
-    },
+    Refused(Refusal),
 }
 
 fn message_of(code: StderrCode) -> Message
@@ -103,18 +100,10 @@ fn stderr_loop(s: &[u8]) -> Stopped
                     }
                     Message::Goes(run) => {
                         let body = at + 8;
-                        let k = skip::skip(
-                            s,
-                            body,
-                            Layout {
-                                major: 0,
-                                minor: 0,
-                                first: run,
-                            },
-                        );
+                        let k = skip::skip(s, body, items::layout(0, 0, run));
                         match k {
-                            Skipped::Refused { which, place } => {
-                                return Stopped::Refused { which, place };
+                            Skipped::Refused(r) => {
+                                return Stopped::Refused(r);
                             }
                             Skipped::Past(next) => {
                                 at = next;
@@ -154,7 +143,7 @@ pub fn read_stderr_loop(s: &[u8]) -> Answer
 {
     let l = stderr_loop(s);
     match l {
-        Stopped::Refused { which, place } => judge::refused_answer(which, place),
+        Stopped::Refused(r) => judge::refused_answer(r),
         Stopped::Stops {
             messages,
             code,
@@ -170,11 +159,7 @@ fn read_error_block(s: &[u8], at: usize, sofar: Record, entries: &mut [u64]) -> 
     ensures entries { λ r. ⌜ now (entries .exit) ≡ lentAfter (judgeOf (now (s .entry)) (length (now (entries .entry)) / 2) 0 sofar (run errorBlock (now (s .entry)) at)) (entriesOf (run errorBlock (now (s .entry)) at)) (now (entries .entry)) ⌝ }
 {
     let slots = entries.len() / 2;
-    let block = Layout {
-        major: 0,
-        minor: 0,
-        first: table::ERROR_BLOCK,
-    };
+    let block = items::layout(0, 0, table::ERROR_BLOCK);
     let a = judge::judge_record(s, at, block, slots, 0, sofar);
     let o = a.outcome;
     let Outcome::Fine = o else {
@@ -190,7 +175,7 @@ pub fn read_stderr_with_error(s: &[u8], entries: &mut [u64]) -> Answer
 {
     let l = stderr_loop(s);
     match l {
-        Stopped::Refused { which, place } => judge::refused_answer(which, place),
+        Stopped::Refused(r) => judge::refused_answer(r),
         Stopped::Stops {
             messages,
             code,
@@ -212,11 +197,7 @@ fn read_error_block_bytes(s: &[u8], at: usize, sofar: Record, entries: &mut [u8]
     ensures entries { λ r. ⌜ now (entries .exit) ≡ lentAfter (judgeOf (now (s .entry)) (length (now (entries .entry)) / 16) 0 sofar (run errorBlock (now (s .entry)) at)) (bytesOf (entriesOf (run errorBlock (now (s .entry)) at))) (now (entries .entry)) ⌝ }
 {
     let slots = entries.len() / 16;
-    let block = Layout {
-        major: 0,
-        minor: 0,
-        first: table::ERROR_BLOCK,
-    };
+    let block = items::layout(0, 0, table::ERROR_BLOCK);
     let a = judge::judge_record(s, at, block, slots, 0, sofar);
     let o = a.outcome;
     let Outcome::Fine = o else {
@@ -232,7 +213,7 @@ pub fn read_stderr_with_error_bytes(s: &[u8], entries: &mut [u8]) -> Answer
 {
     let l = stderr_loop(s);
     match l {
-        Stopped::Refused { which, place } => judge::refused_answer(which, place),
+        Stopped::Refused(r) => judge::refused_answer(r),
         Stopped::Stops {
             messages,
             code,

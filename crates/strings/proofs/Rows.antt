@@ -5,43 +5,53 @@ use mathlib.Core.List.{List}
 use mathlib.Core.Bool.{Bool, true, false}
 use native.Mathlib.Omega.{arith}
 use lib.ListN.{length}
-use lib.Dec.{leb}
-use borrow.Author.Tests.{leb-true}
-use Rattle.layouts.specs.Primitive.{numberAt, padOf, ok, refused}
+use lib.Dec.{leb, ltb}
+use borrow.Author.Tests.{leb-true, ltb-true, ltb-false}
+use Rattle.layouts.specs.Primitive.{pick, numberAt, padOf}
+use Rattle.layouts.specs.declared.Refusal.{Refusal}
+use Rattle.layouts.specs.Refusal.{plain}
 use Rattle.layouts.specs.Shape.{Role, passed, Tree, say, strings, units}
-use Rattle.layouts.specs.Pieces.{Pieces, number, text, half, chunk, end, fault, Text, whole, textOf, afterText, run, skipOf}
+use Rattle.layouts.specs.Pieces.{Pieces, number, text, half, chunk, end, fault, textOf, afterText, run, skipOf}
 use Rattle.pieces.specs.declared.Text as T
 use Rattle.pieces.specs.declared.Text.the-variants.{Whole, Half, Bad}
 use Rattle.layouts.specs.Calls.{peekNumber}
 use Rattle.number.specs.declared.Number.{Number}
 use Rattle.number.specs.declared.Number.the-variants.{Value}
-use Rattle.pieces.specs.Pieces.{numRead, textRead}
+use Rattle.pieces.specs.Pieces.{numRead, textFound}
 use Rattle.pieces.proofs.Numbers.{number-known}
-use Rattle.pieces.proofs.Found.{text-known, whole-string}
+use Rattle.pieces.proofs.Found.{textRead, text-told, bad-plain, text-known, whole-string}
 use Rattle.pieces.proofs.Nodes.{say-as, whole-found}
 use Rattle.strings.specs.declared.More.{More}
 use Rattle.strings.specs.declared.More.the-variants as M
 use Rattle.strings.specs.declared.Passed as P
 use Rattle.strings.specs.declared.Passed.the-variants.{Past, Refused}
-use Rattle.strings.specs.Strings.{row, rowAfter, stays, textIf, chunkIf, bare, passedTo, Passes, Expected}
+use Rattle.strings.specs.Strings.{row, rowAfter, afterNext, stays, textIf, chunkIf, bare, passedTo, Passes, PastFrom, Expected}
 
 module _ (m : Role) (e : ℕ) (k : Unit {0} → Tree) where
-  pub row-pend : (p l : ℕ) → 0 < p → row m p e l k ≡ say m (λ u. row m (p - 1) e l k)
+  row-pend : (p l : ℕ) → 0 < p → row m p e l k ≡ say m (λ u. row m (p - 1) e l k)
   unfolding row strings
   row-pend zero l h = absurd (omega arith)
   row-pend (suc p) l h = let z : suc p - 1 ≡ p = omega arith in rw z
 
-  pub row-left : (p l : ℕ) → p ≤ 0 → 0 < l → row m p e l k ≡ say m (λ u. row m e e (l - 1) k)
+  row-left : (p l : ℕ) → p ≤ 0 → 0 < l → row m p e l k ≡ say m (λ u. row m e e (l - 1) k)
   unfolding row strings units
   row-left zero zero h g = absurd (omega arith)
   row-left zero (suc l) h g = let z : suc l - 1 ≡ l = omega arith in rw z
   row-left (suc p) l h g = absurd (omega arith)
 
-  pub row-none : (p l : ℕ) → p ≤ 0 → l ≤ 0 → row m p e l k ≡ k tt
+  row-none : (p l : ℕ) → p ≤ 0 → l ≤ 0 → row m p e l k ≡ k tt
   unfolding row strings units
   row-none zero zero h g = refl
   row-none zero (suc l) h g = absurd (omega arith)
   row-none (suc p) l h g = absurd (omega arith)
+
+  next-by : (p l : ℕ) (a b : Bool) → ltb 0 p ≡ a → ltb 0 l ≡ b → row m p e l k ≡ rowAfter m e k (pick a (M.String (p - 1) l) (pick b (M.String e (l - 1)) M.None))
+  next-by p l true b x y = row-pend p l (ltb-true 0 p x)
+  next-by p l false true x y = row-left p l (ltb-false 0 p x) (ltb-true 0 l y)
+  next-by p l false false x y = row-none p l (ltb-false 0 p x) (ltb-false 0 l y)
+
+  pub row-next : (p l : ℕ) (x : More) → x ≡ afterNext p e l → row m p e l k ≡ rowAfter m e k x
+  row-next p l x h = next-by p l _ _ refl refl ∙ ap (rowAfter m e k) (sym h)
 
 -- ---- a string that is as long as expected
 module _ (s : List ℕ) (at n : ℕ) (r : Number) (e : numRead r ≡ peekNumber s at) (q : r ≡ Value n) where
@@ -56,11 +66,11 @@ module _ (s : List ℕ) (at n : ℕ) (r : Number) (e : numRead r ≡ peekNumber 
   expected x pad h l p = expected-by x pad _ h l p refl
 
 module _ (s : List ℕ) (at n : ℕ) (b : Bool) (e : Expected s at n b) (h : b ≡ true) where
-  pub expected-told : whole (at + 8) n (at + 8 + n + padOf n) ≡ textOf (length s) (numberAt s at) at
+  pub expected-told : Whole (at + 8) n (at + 8 + n + padOf n) ≡ textFound (textOf (length s) (numberAt s at) at)
   expected-told = subst (Expected s at n) h e
 
   pub expected-fits : at + 8 + n + padOf n ≤ length s
-  expected-fits = text-known (length s) (numberAt s at) at (whole (at + 8) n (at + 8 + n + padOf n)) expected-told .3
+  expected-fits = text-known (length s) (numberAt s at) at _ (text-told s at _ expected-told _ refl) .3
 
 -- the row from a place on, and what the whole comes to
 pub record Passing (s : List ℕ) (e from p₀ l₀ at p l : ℕ) : Type 0 where
@@ -70,27 +80,27 @@ pub record Passing (s : List ℕ) (e from p₀ l₀ at p l : ℕ) : Type 0 where
 pub passing-start : (s : List ℕ) (e from p l : ℕ) → Passing s e from p l from p l
 passing-start s e from p l = record { on = omega arith; same = λ b m z k. refl }
 
-module _ (s : List ℕ) (e from p₀ l₀ at p l : ℕ) (g : Passing s e from p₀ l₀ at p l) (x : More) (h : (m : Role) (k : Unit {0} → Tree) → row m p e l k ≡ rowAfter m e k x) where
+module _ (s : List ℕ) (e from p₀ l₀ at p l : ℕ) (g : Passing s e from p₀ l₀ at p l) (x : More) (h : x ≡ afterNext p e l) where
   abbrev Passed : P.Passed → Type 0
   Passed r = (b : Bool) (m : Role) → stays b m ≡ false → Passes b s from (row m p₀ e l₀) r
 
-  pub passing-end : x ≡ M.None → Passed (Past at)
-  passing-end q b m z k = g .same b m z k ∙ ap (λ (t : Tree). bare b (run t s at)) (h m k ∙ ap (rowAfter m e k) q)
+  pub passing-end : x ≡ M.None → Passed (Past at) × PastFrom from (Past at)
+  passing-end q = (λ b m z k. g .same b m z k ∙ ap (λ (t : Tree). bare b (run t s at)) (row-next m e k p l x h ∙ ap (rowAfter m e k) q), g .on)
 
-  module _ (p' l' : ℕ) (q : x ≡ M.String p' l') (r : T.Text) (t : textRead r ≡ textOf (length s) (numberAt s at) at) where
+  module _ (p' l' : ℕ) (q : x ≡ M.String p' l') (r : T.Text) (t : r ≡ textFound (textOf (length s) (numberAt s at) at)) where
     there : (y : T.Text) → r ≡ y → (b : Bool) (m : Role) → stays b m ≡ false → (k : Unit {0} → Tree)
         → bare b (run (row m p₀ e l₀ k) s from) ≡ bare b (afterText (textRead y) m (λ a. run (row m p' e l' k) s a))
     there y f b m z k =
-        g .same b m z k ∙ ap (λ (u : Tree). bare b (run u s at)) (h m k ∙ ap (rowAfter m e k) q) ∙
+        g .same b m z k ∙ ap (λ (u : Tree). bare b (run u s at)) (row-next m e k p l x h ∙ ap (rowAfter m e k) q) ∙
         ap (bare b) (say-as s at r t y f m (λ u. row m p' e l' k))
 
-    pub passing-bad : (which place : ℕ) → r ≡ Bad which place → Passed (Refused which place)
+    pub passing-bad : (y : Refusal) → r ≡ Bad y → Passed (Refused y) × PastFrom from (Refused y)
     unfolding afterText bare
-    passing-bad which place f b m z k = there (Bad which place) f b m z k
+    passing-bad y f = (λ b m z k. there (Bad y) f b m z k, bad-plain s at r t y f)
 
-    pub passing-half : (start len : ℕ) → r ≡ Half start len → Passed (Refused 1 (start + len))
+    pub passing-half : (start len : ℕ) → r ≡ Half start len → (y : Refusal) → y ≡ plain 1 (start + len) → Passed (Refused y) × PastFrom from (Refused y)
     unfolding afterText bare
-    passing-half start len f b m z k = there (Half start len) f b m z k
+    passing-half start len f y i = rw i (λ b m z k. there (Half start len) f b m z k, refl)
 
     pub passing-on : (start len next : ℕ) → r ≡ Whole start len next → Passing s e from p₀ l₀ next p' l'
     unfolding afterText bare
@@ -103,7 +113,7 @@ module _ (s : List ℕ) (e from p₀ l₀ at p l : ℕ) (g : Passing s e from p�
         }
 
   pub passing-expected : (p' l' : ℕ) → x ≡ M.String p' l' → (n : ℕ) (b : Bool) → Expected s at n b → b ≡ true → (next : ℕ) → next ≡ at + 8 + n + padOf n → Passing s e from p₀ l₀ next p' l'
-  passing-expected p' l' q n b f i next z = passing-on p' l' q (Whole (at + 8) n next) (ap (whole (at + 8) n) z ∙ expected-told s at n b f i) (at + 8) n next refl
+  passing-expected p' l' q n b f i next z = passing-on p' l' q (Whole (at + 8) n next) (ap (Whole (at + 8) n) z ∙ expected-told s at n b f i) (at + 8) n next refl
 
 -- ---- who only skips, and who fills in, need not look at what is passed over
 skip-text : (u : Bool) (r : Role) (start len : ℕ) (p : Pieces) → skipOf (textIf u r start len p) ≡ skipOf p

@@ -1,12 +1,15 @@
 -- A row of strings as a tree, and what is left of it.
-use Prim.Native.Nat.{ℕ, _+_, _≤_}
+use Prim.Native.Nat.{ℕ, _+_, _-_, _≤_}
 use mathlib.Core.Path.{_≡_}
 use mathlib.Core.List.{List}
 use mathlib.Core.Bool.{Bool, true, false}
 use lib.ListN.{length}
-use Rattle.layouts.specs.Primitive.{numberAt, padOf, cutShort}
+use lib.Dec.{ltb}
+use Rattle.layouts.specs.Primitive.{pick, numberAt, padOf, cutShort}
 use Rattle.layouts.specs.Shape.{Role, passed, checked, kept, Tree, say, strings, units}
-use Rattle.layouts.specs.Pieces.{Pieces, number, text, half, chunk, end, fault, whole, textOf, run}
+use Rattle.layouts.specs.Pieces.{Pieces, number, text, half, chunk, end, fault, textOf, run}
+use Rattle.pieces.specs.declared.Text.the-variants.{Whole}
+use Rattle.pieces.specs.Pieces.{textFound}
 use Rattle.strings.specs.declared.More.{More}
 use Rattle.strings.specs.declared.More.the-variants as M
 use Rattle.strings.specs.declared.Passed.{Passed}
@@ -18,6 +21,9 @@ row m pend extra left k = strings m pend (λ u. units m extra left k)
 abbrev pub rowAfter : Role → (extra : ℕ) → (Unit {0} → Tree) → More → Tree
 rowAfter m extra k (M.String pend left) = say m (λ u. row m pend extra left k)
 rowAfter m extra k M.None = k tt
+
+abbrev pub afterNext : (pend extra left : ℕ) → More
+afterNext pend extra left = pick (ltb 0 pend) (M.String (pend - 1) left) (pick (ltb 0 left) (M.String extra (left - 1)) M.None)
 
 -- ---- pieces without what is passed over: numbers, and all strings and chunks, or those that are not to be filled in
 -- is a string to stay?
@@ -46,17 +52,18 @@ bare b (fault which place) = fault which place
 -- what follows, or the refusal
 abbrev pub passedTo : Passed → (ℕ → Pieces) → Pieces
 passedTo (P.Past at) k = k at
-passedTo (P.Refused which place) k = fault which place
+passedTo (P.Refused r) k = fault (r .which) (r .place)
 
 -- t puts something before a rest: whatever the rest is, nothing of t stays
 abbrev pub Passes : (keep : Bool) → List ℕ → (at : ℕ) → ((Unit {0} → Tree) → Tree) → Passed → Type 0
 Passes b s at t r = (k : Unit {0} → Tree) → bare b (run (t k) s at) ≡ passedTo r (λ a. bare b (run (k tt) s a))
 
+-- a place that is no earlier, or a refusal of a stream that is not a handshake's
 abbrev pub PastFrom : (from : ℕ) → Passed → Type 0
 PastFrom from (P.Past at) = from ≤ at
-PastFrom from (P.Refused which place) = Unit {0}
+PastFrom from (P.Refused r) = r .stream ≡ 0
 
 -- yes says that a whole string of n bytes stands at a place; no says nothing
 abbrev pub Expected : List ℕ → (at n : ℕ) → Bool → Type 0
-Expected s at n true = whole (at + 8) n (at + 8 + n + padOf n) ≡ textOf (length s) (numberAt s at) at
+Expected s at n true = Whole (at + 8) n (at + 8 + n + padOf n) ≡ textFound (textOf (length s) (numberAt s at) at)
 Expected s at n false = Unit {0}

@@ -3,8 +3,9 @@ ghost use mathlib.Core.Path.{_≡_};
 ghost use Prim.Native.Nat.{_≤_};
 ghost use lib.ListN.{length};
 ghost use mathlib.Core.Bool.{Bool, false};
-ghost use Rattle.layouts.specs.Shape.{Role, Tree};
-ghost use Rattle.strings.specs.Strings.{row, rowAfter, stays, Passes, PastFrom, Expected};
+ghost use Rattle.layouts.specs.Shape.{Role};
+ghost use Rattle.strings.specs.Strings.{row, afterNext, stays, Passes, PastFrom, Expected};
+use layouts::Refusal;
 use number::Number;
 use pieces::Text;
 
@@ -14,7 +15,7 @@ const LONG: usize = 256;
 // Where the row ends, or its first refusal.
 pub enum Passed {
     Past(usize),
-    Refused { which: u64, place: usize },
+    Refused(Refusal),
 }
 
 // What is left of a row after its next string, if it has one.
@@ -24,7 +25,7 @@ pub enum More {
 }
 
 pub fn after_next(pend: u64, extra: u64, left: u64) -> More
-    ensures { λ r. ⌜ ((m : Role) (k : Unit {0} → Tree) → row m pend extra left k ≡ rowAfter m extra k r) ⌝ }
+    ensures { λ r. ⌜ r ≡ afterNext pend extra left ⌝ }
 {
     if 0 < pend {
         return More::String {
@@ -85,14 +86,14 @@ pub fn pass(s: &[u8], from: usize, pend: u64, extra: u64, left: u64) -> Passed
                 } else {
                     let t = pieces::text_at(s, at);
                     match t {
-                        Text::Bad { which, place } => {
-                            return Passed::Refused { which, place };
+                        Text::Bad(r) => {
+                            return Passed::Refused(r);
                         }
                         Text::Half { start, len } => {
-                            return Passed::Refused {
-                                which: layouts::CUT_SHORT,
-                                place: start + len,
-                            };
+                            return Passed::Refused(layouts::refuse(
+                                layouts::CUT_SHORT,
+                                start + len,
+                            ));
                         }
                         Text::Whole {
                             start: _,

@@ -9,7 +9,7 @@ use native.Mathlib.Numerals.{add-one}
 use native.Mathlib.Decide.{decLt}
 use Rattle.table.specs.declared.Field.{Field}
 use Rattle.table.specs.declared.Run.{Run}
-use Rattle.table.specs.Packed.{fieldCount, runCount, fieldTable, runTable}
+use Rattle.table.specs.Packed.{size, packedTable}
 use Rattle.table.specs.Table.{fieldOf, runOf, fieldAt, runAt, unlessEnd, consItem, items, itemsAt, consRun, groupsIn, groupsAt}
 
 -- i is none of the first n numbers, as the last arm of a match is told
@@ -36,7 +36,7 @@ items-at (f ∷ l) (suc i) = items-at l i
 
 pub items-step : (pc : ℕ) → itemsAt pc ≡ consItem (fieldAt pc) (λ u. itemsAt (pc + 1))
 unfolding itemsAt fieldAt
-items-step pc = items-at fieldTable pc ∙ ap (λ (i : ℕ). consItem (fieldAt pc) (λ u. items (drop i fieldTable))) (sym (add-one pc))
+items-step pc = items-at packedTable pc ∙ ap (λ (i : ℕ). consItem (fieldAt pc) (λ u. items (drop i packedTable))) (sym (add-one pc))
 
 groups-at : (l : List ℕ) (i : ℕ) → groupsIn (drop i l) ≡ consRun (runOf (getD l i 0)) (λ u. groupsIn (drop (suc i) l))
 unfolding groupsIn consRun unlessEnd
@@ -47,30 +47,33 @@ groups-at (f ∷ l) (suc i) = groups-at l i
 
 pub groups-step : (i : ℕ) → groupsAt i ≡ consRun (runAt i) (λ u. groupsAt (i + 1))
 unfolding groupsAt runAt
-groups-step i = groups-at runTable i ∙ ap (λ (j : ℕ). consRun (runAt i) (λ u. groupsIn (drop j runTable))) (sym (add-one i))
+groups-step i = groups-at packedTable i ∙ ap (λ (j : ℕ). consRun (runAt i) (λ u. groupsIn (drop j packedTable))) (sym (add-one i))
 
--- ---- an entry that ends nothing is in its table
-field-past : (pc : ℕ) → fieldCount ≤ pc → fieldAt pc .kind ≡ 0
-unfolding fieldAt fieldTable
-field-past pc h = ap (λ (x : ℕ). x % 16) (sym (getD-past fieldTable pc 0 h))
+-- ---- an entry that ends nothing is in the table
+past-0 : (i : ℕ) → size ≤ i → getD packedTable i 0 ≡ 0
+unfolding packedTable
+past-0 i h = sym (getD-past packedTable i 0 h)
 
-run-past : (i : ℕ) → runCount ≤ i → runAt i .kind ≡ 0
-unfolding runAt runTable
-run-past i h = ap (λ (x : ℕ). x % 4) (sym (getD-past runTable i 0 h))
+in-by : (i : ℕ) → (getD packedTable i 0 ≡ 0 → ⊥) → Dec (i < size) → i < size
+in-by i k (yes h) = h
+in-by i k (no h) = absurd (k (past-0 i (omega arith)))
 
-field-in-by : (pc : ℕ) (f : Field) → f ≡ fieldAt pc → (f .kind ≡ 0 → ⊥) → Dec (pc < fieldCount) → pc < fieldCount
-field-in-by pc f e k (yes h) = h
-field-in-by pc f e k (no h) = absurd (k (ap (λ (x : Field). x .kind) e ∙ field-past pc (omega arith)))
+pub field-in : (pc : ℕ) (f : Field) → f ≡ fieldAt pc → (f .kind ≡ 0 → ⊥) → pc < size
+unfolding fieldAt
+field-in pc f e k = in-by pc (λ z. k (rw e (ap (λ (x : ℕ). x % 16) z))) (decLt pc size)
 
-pub field-in : (pc : ℕ) (f : Field) → f ≡ fieldAt pc → (f .kind ≡ 0 → ⊥) → pc < fieldCount
-field-in pc f e k = field-in-by pc f e k (decLt pc fieldCount)
+pub run-in : (i : ℕ) (r : Run) → r ≡ runAt i → (r .kind ≡ 0 → ⊥) → i < size
+unfolding runAt
+run-in i r e k = in-by i (λ z. k (rw e (ap (λ (x : ℕ). x % 4) z))) (decLt i size)
 
-run-in-by : (i : ℕ) (r : Run) → r ≡ runAt i → (r .kind ≡ 0 → ⊥) → Dec (i < runCount) → i < runCount
-run-in-by i r e k (yes h) = h
-run-in-by i r e k (no h) = absurd (k (ap (λ (x : Run). x .kind) e ∙ run-past i (omega arith)))
+-- ---- what is packed at a place is a field, and a run
+pub packed-field : (pc x : ℕ) → x ≡ getD packedTable pc 0 → fieldOf x ≡ fieldAt pc
+unfolding fieldAt
+packed-field pc x e = ap fieldOf e
 
-pub run-in : (i : ℕ) (r : Run) → r ≡ runAt i → (r .kind ≡ 0 → ⊥) → i < runCount
-run-in i r e k = run-in-by i r e k (decLt i runCount)
+pub packed-run : (i x : ℕ) → x ≡ getD packedTable i 0 → runOf x ≡ runAt i
+unfolding runAt
+packed-run i x e = ap runOf e
 
 -- an arm of the match
 pub entry : (l : List ℕ) {i k : ℕ} → i ≡ k → getD l k 0 ≡ getD l i 0

@@ -4,182 +4,176 @@ use mathlib.Core.List.{List, [], _∷_}
 use Rattle.table.specs.declared.Row.{Row}
 use Rattle.table.specs.Numbered.{Numbered, just, byVersion, byFlag}
 
-abbrev pub fieldCount : ℕ
-fieldCount = 183
+abbrev pub size : ℕ
+size = 279
 
-abbrev pub runCount : ℕ
-runCount = 96
-
-abbrev pub fieldList : List ℕ
-fieldList =
-    -- 0: N N N N N N N N N N, from 1.10 N, from 1.12 N P
-    65 ∷ 129 ∷ 193 ∷ 257 ∷ 321 ∷ 385 ∷ 449 ∷ 513 ∷ 577 ∷ 641 ∷ 168641 ∷ 201473 ∷ 202340 ∷ 0 ∷
-    -- 14: n n n n n n n n n n, from 1.10 n, from 1.12 n p
-    1 ∷ 1 ∷ 1 ∷ 1 ∷ 1 ∷ 1 ∷ 1 ∷ 1 ∷ 1 ∷ 1 ∷ 167937 ∷ 200705 ∷ 200772 ∷ 0 ∷
-    -- 28: below 1.25 S, from 1.25 S without entry S S S* N N flag S* S
-    417826 ∷ 413714 ∷ 413730 ∷ 413730 ∷ 415331 ∷ 413761 ∷ 413825 ∷ 414657 ∷ 415395 ∷ 413730 ∷ 0 ∷
-    -- 39: s n s, from 1.29 n n n n, from 1.37 flag with n flag with n, from 1.28 p
-    2 ∷ 1 ∷ 2 ∷ 479233 ∷ 479233 ∷ 479233 ∷ 479233 ∷ 610310 ∷ 610310 ∷ 462852 ∷ 0 ∷
-    -- 50: below 1.25 S n n s, from 1.25 S s s* n
-    417826 ∷ 417793 ∷ 417793 ∷ 417794 ∷ 413730 ∷ 413698 ∷ 413699 ∷ 413697 ∷ 0 ∷
-    -- 59: S S S* N N, from 1.16 flag S* S
-    34 ∷ 34 ∷ 1635 ∷ 65 ∷ 129 ∷ 267201 ∷ 267939 ∷ 266274 ∷ 0 ∷
-    -- 68: N S* N N n n n
-    65 ∷ 1635 ∷ 129 ∷ 193 ∷ 1 ∷ 1 ∷ 1 ∷ 0 ∷
-    -- 76: n s* n n n n n
-    1 ∷ 3 ∷ 1 ∷ 1 ∷ 1 ∷ 1 ∷ 1 ∷ 0 ∷
-    -- 84: from 1.25 S S S* flag F
-    413730 ∷ 413730 ∷ 415331 ∷ 414529 ∷ 413701 ∷ 0 ∷
-    -- 90: S S s* n n
-    34 ∷ 34 ∷ 3 ∷ 1 ∷ 1 ∷ 0 ∷
-    -- 96: S* S* S* N N
-    1635 ∷ 1699 ∷ 1763 ∷ 65 ∷ 129 ∷ 0 ∷
-    -- 102: S S* N N
-    34 ∷ 1635 ∷ 65 ∷ 129 ∷ 0 ∷
-    -- 107: n n n s
-    1 ∷ 1 ∷ 1 ∷ 2 ∷ 0 ∷
-    -- 112: S N S S
-    34 ∷ 193 ∷ 34 ∷ 34 ∷ 0 ∷
-    -- 117: S S S*
-    34 ∷ 34 ∷ 1635 ∷ 0 ∷
-    -- 121: s s s*
-    2 ∷ 2 ∷ 3 ∷ 0 ∷
-    -- 125: N n n
-    65 ∷ 1 ∷ 1 ∷ 0 ∷
-    -- 129: flag flag F
-    833 ∷ 897 ∷ 5 ∷ 0 ∷
-    -- 133: s n n
-    2 ∷ 1 ∷ 1 ∷ 0 ∷
-    -- 137: from 1.33 S, from 1.35 N, N
-    544802 ∷ 577857 ∷ 385 ∷ 0 ∷
-    -- 141: S* N
-    1635 ∷ 65 ∷ 0 ∷
-    -- 144: s* n
-    67 ∷ 1 ∷ 0 ∷
-    -- 147: S*, from 1.27 flag
-    1635 ∷ 447297 ∷ 0 ∷
-    -- 150: s*, from 1.27 n
-    67 ∷ 446465 ∷ 0 ∷
-    -- 153: flag flag
-    833 ∷ 897 ∷ 0 ∷
-    -- 156: S s*
-    34 ∷ 3 ∷ 0 ∷
-    -- 159: S F
-    34 ∷ 5 ∷ 0 ∷
-    -- 162: s s
-    2 ∷ 2 ∷ 0 ∷
-    -- 165: N N
-    193 ∷ 257 ∷ 0 ∷
-    -- 168: from 1.14 flag with n, from 1.11 n
-    233478 ∷ 184321 ∷ 0 ∷
-    -- 171: P
-    1636 ∷ 0 ∷
-    -- 173: s*
-    67 ∷ 0 ∷
-    -- 175: from 1.23 F
-    380933 ∷ 0 ∷
-    -- 177: typed
-    7 ∷ 0 ∷
-    -- 179: from 1.38 S*
-    628323 ∷ 0 ∷
-    -- 181: from 1.38 S*
-    628387 ∷ 0 ∷
-    []
-
-abbrev pub runList : List ℕ
-runList =
+-- the runs of the layouts, then their fields
+abbrev pub packedList : List ℕ
+packedList =
     -- 0: S
-    29441 ∷ 0 ∷
+    54017 ∷ 0 ∷
     -- 2: N
-    36353 ∷ 0 ∷
+    60929 ∷ 0 ∷
     -- 4: S*
-    30465 ∷ 0 ∷
+    55041 ∷ 0 ∷
     -- 6: from 1.25 S S S* flag F
-    21505 ∷ 0 ∷
+    46081 ∷ 0 ∷
     -- 8: below 1.25 S n n s, from 1.25 S s s* n
-    12801 ∷ 0 ∷
+    37377 ∷ 0 ∷
     -- 10: below 1.25 S, from 1.25 S without entry S S S* N N flag S* S
-    7169 ∷ 0 ∷
+    31745 ∷ 0 ∷
     -- 12: S S S*
-    29953 ∷ 0 ∷
+    54529 ∷ 0 ∷
     -- 14: s s s*
-    30977 ∷ 0 ∷
+    55553 ∷ 0 ∷
     -- 16: S* N
-    36097 ∷ 0 ∷
+    60673 ∷ 0 ∷
     -- 18: s* n
-    36865 ∷ 0 ∷
+    61441 ∷ 0 ∷
     -- 20: nothing
-    3329 ∷ 0 ∷
+    27905 ∷ 0 ∷
     -- 22: P
-    43777 ∷ 0 ∷
+    68353 ∷ 0 ∷
     -- 24: N N N N N N N N N N, from 1.10 N, from 1.12 N P
-    1 ∷ 0 ∷
-    -- 26: n n n n n n n n n n, from 1.10 n, from 1.12 n p
-    3585 ∷ 0 ∷
-    -- 28: N S* N N n n n
-    17409 ∷ 0 ∷
-    -- 30: n s* n n n n n
-    19457 ∷ 0 ∷
-    -- 32: N n n
-    32001 ∷ 0 ∷
-    -- 34: flag, if true S S* N N
-    26226 ∷ 0 ∷
-    -- 36: flag, if true S S S* N N, from 1.16 flag S* S
-    15218 ∷ 0 ∷
-    -- 38: s*
-    44289 ∷ 0 ∷
-    -- 40: count of S S s* n n
-    23143 ∷ 0 ∷
-    -- 42: S*, from 1.27 flag
-    37633 ∷ 0 ∷
-    -- 44: s*, from 1.27 n
-    38401 ∷ 0 ∷
-    -- 46: flag flag
-    39169 ∷ 0 ∷
-    -- 48: n n
-    18689 ∷ 0 ∷
-    -- 50: n s, from 1.29 n n n n, from 1.37 flag with n flag with n, from 1.28 p
-    10241 ∷ 0 ∷
-    -- 52: S S*
-    30209 ∷ 0 ∷
-    -- 54: S s*
-    39937 ∷ 0 ∷
-    -- 56: from 1.23 F
-    44801 ∷ 0 ∷
-    -- 58: S* S* S* N N
     24577 ∷ 0 ∷
-    -- 60: flag flag F
-    33025 ∷ 0 ∷
-    -- 62: S F
-    40705 ∷ 0 ∷
-    -- 64: count of s n s, from 1.29 n n n n, from 1.37 flag with n flag with n, from 1.28 p
-    9987 ∷ 0 ∷
-    -- 66: S S
-    29185 ∷ 0 ∷
-    -- 68: s s
-    41473 ∷ 0 ∷
-    -- 70: s
+    -- 26: n n n n n n n n n n, from 1.10 n, from 1.12 n p
     28161 ∷ 0 ∷
+    -- 28: N S* N N n n n
+    41985 ∷ 0 ∷
+    -- 30: n s* n n n n n
+    44033 ∷ 0 ∷
+    -- 32: N n n
+    56577 ∷ 0 ∷
+    -- 34: flag, if true S S* N N
+    50802 ∷ 0 ∷
+    -- 36: flag, if true S S S* N N, from 1.16 flag S* S
+    39794 ∷ 0 ∷
+    -- 38: s*
+    68865 ∷ 0 ∷
+    -- 40: count of S S s* n n
+    47719 ∷ 0 ∷
+    -- 42: S*, from 1.27 flag
+    62209 ∷ 0 ∷
+    -- 44: s*, from 1.27 n
+    62977 ∷ 0 ∷
+    -- 46: flag flag
+    63745 ∷ 0 ∷
+    -- 48: n n
+    43265 ∷ 0 ∷
+    -- 50: n s, from 1.29 n n n n, from 1.37 flag with n flag with n, from 1.28 p
+    34817 ∷ 0 ∷
+    -- 52: S S*
+    54785 ∷ 0 ∷
+    -- 54: S s*
+    64513 ∷ 0 ∷
+    -- 56: from 1.23 F
+    69377 ∷ 0 ∷
+    -- 58: S* S* S* N N
+    49153 ∷ 0 ∷
+    -- 60: flag flag F
+    57601 ∷ 0 ∷
+    -- 62: S F
+    65281 ∷ 0 ∷
+    -- 64: count of s n s, from 1.29 n n n n, from 1.37 flag with n flag with n, from 1.28 p
+    34563 ∷ 0 ∷
+    -- 66: S S
+    53761 ∷ 0 ∷
+    -- 68: s s
+    66049 ∷ 0 ∷
+    -- 70: s
+    52737 ∷ 0 ∷
     -- 72: n
-    18945 ∷ 0 ∷
+    43521 ∷ 0 ∷
     -- 74: n n n s, count of typed, n
-    27393 ∷ 45315 ∷ 18945 ∷ 0 ∷
+    51969 ∷ 69891 ∷ 43521 ∷ 0 ∷
     -- 78: n n, count of typed
-    18689 ∷ 45315 ∷ 0 ∷
+    43265 ∷ 69891 ∷ 0 ∷
     -- 81: S N S S, flag, if true s n n
-    28673 ∷ 34050 ∷ 0 ∷
+    53249 ∷ 58626 ∷ 0 ∷
     -- 84: N N
-    25345 ∷ 0 ∷
+    49921 ∷ 0 ∷
     -- 86: N N
-    42241 ∷ 0 ∷
+    66817 ∷ 0 ∷
     -- 88: from 1.38 S*
-    45825 ∷ 0 ∷
+    70401 ∷ 0 ∷
     -- 90: from 1.38 S*
-    46337 ∷ 0 ∷
+    70913 ∷ 0 ∷
     -- 92: from 1.14 flag with n, from 1.11 n
-    43009 ∷ 0 ∷
+    67585 ∷ 0 ∷
     -- 94: from 1.33 S, from 1.35 N, N
-    35073 ∷ 0 ∷
+    59649 ∷ 0 ∷
+    -- 96: N N N N N N N N N N, from 1.10 N, from 1.12 N P
+    65 ∷ 129 ∷ 193 ∷ 257 ∷ 321 ∷ 385 ∷ 449 ∷ 513 ∷ 577 ∷ 641 ∷ 168641 ∷ 201473 ∷ 202340 ∷ 0 ∷
+    -- 110: n n n n n n n n n n, from 1.10 n, from 1.12 n p
+    1 ∷ 1 ∷ 1 ∷ 1 ∷ 1 ∷ 1 ∷ 1 ∷ 1 ∷ 1 ∷ 1 ∷ 167937 ∷ 200705 ∷ 200772 ∷ 0 ∷
+    -- 124: below 1.25 S, from 1.25 S without entry S S S* N N flag S* S
+    417826 ∷ 413714 ∷ 413730 ∷ 413730 ∷ 415331 ∷ 413761 ∷ 413825 ∷ 414657 ∷ 415395 ∷ 413730 ∷ 0 ∷
+    -- 135: s n s, from 1.29 n n n n, from 1.37 flag with n flag with n, from 1.28 p
+    2 ∷ 1 ∷ 2 ∷ 479233 ∷ 479233 ∷ 479233 ∷ 479233 ∷ 610310 ∷ 610310 ∷ 462852 ∷ 0 ∷
+    -- 146: below 1.25 S n n s, from 1.25 S s s* n
+    417826 ∷ 417793 ∷ 417793 ∷ 417794 ∷ 413730 ∷ 413698 ∷ 413699 ∷ 413697 ∷ 0 ∷
+    -- 155: S S S* N N, from 1.16 flag S* S
+    34 ∷ 34 ∷ 1635 ∷ 65 ∷ 129 ∷ 267201 ∷ 267939 ∷ 266274 ∷ 0 ∷
+    -- 164: N S* N N n n n
+    65 ∷ 1635 ∷ 129 ∷ 193 ∷ 1 ∷ 1 ∷ 1 ∷ 0 ∷
+    -- 172: n s* n n n n n
+    1 ∷ 3 ∷ 1 ∷ 1 ∷ 1 ∷ 1 ∷ 1 ∷ 0 ∷
+    -- 180: from 1.25 S S S* flag F
+    413730 ∷ 413730 ∷ 415331 ∷ 414529 ∷ 413701 ∷ 0 ∷
+    -- 186: S S s* n n
+    34 ∷ 34 ∷ 3 ∷ 1 ∷ 1 ∷ 0 ∷
+    -- 192: S* S* S* N N
+    1635 ∷ 1699 ∷ 1763 ∷ 65 ∷ 129 ∷ 0 ∷
+    -- 198: S S* N N
+    34 ∷ 1635 ∷ 65 ∷ 129 ∷ 0 ∷
+    -- 203: n n n s
+    1 ∷ 1 ∷ 1 ∷ 2 ∷ 0 ∷
+    -- 208: S N S S
+    34 ∷ 193 ∷ 34 ∷ 34 ∷ 0 ∷
+    -- 213: S S S*
+    34 ∷ 34 ∷ 1635 ∷ 0 ∷
+    -- 217: s s s*
+    2 ∷ 2 ∷ 3 ∷ 0 ∷
+    -- 221: N n n
+    65 ∷ 1 ∷ 1 ∷ 0 ∷
+    -- 225: flag flag F
+    833 ∷ 897 ∷ 5 ∷ 0 ∷
+    -- 229: s n n
+    2 ∷ 1 ∷ 1 ∷ 0 ∷
+    -- 233: from 1.33 S, from 1.35 N, N
+    544802 ∷ 577857 ∷ 385 ∷ 0 ∷
+    -- 237: S* N
+    1635 ∷ 65 ∷ 0 ∷
+    -- 240: s* n
+    67 ∷ 1 ∷ 0 ∷
+    -- 243: S*, from 1.27 flag
+    1635 ∷ 447297 ∷ 0 ∷
+    -- 246: s*, from 1.27 n
+    67 ∷ 446465 ∷ 0 ∷
+    -- 249: flag flag
+    833 ∷ 897 ∷ 0 ∷
+    -- 252: S s*
+    34 ∷ 3 ∷ 0 ∷
+    -- 255: S F
+    34 ∷ 5 ∷ 0 ∷
+    -- 258: s s
+    2 ∷ 2 ∷ 0 ∷
+    -- 261: N N
+    193 ∷ 257 ∷ 0 ∷
+    -- 264: from 1.14 flag with n, from 1.11 n
+    233478 ∷ 184321 ∷ 0 ∷
+    -- 267: P
+    1636 ∷ 0 ∷
+    -- 269: s*
+    67 ∷ 0 ∷
+    -- 271: from 1.23 F
+    380933 ∷ 0 ∷
+    -- 273: typed
+    7 ∷ 0 ∷
+    -- 275: from 1.38 S*
+    628323 ∷ 0 ∷
+    -- 277: from 1.38 S*
+    628387 ∷ 0 ∷
     []
 
 -- number; runs of arguments, skipped arguments, reply; the codes of their kinds
@@ -264,6 +258,15 @@ info = 94
 abbrev pub stringSet : ℕ
 stringSet = 4
 
+abbrev pub nothing : ℕ
+nothing = 1
+
+abbrev pub emptyFields : ℕ
+emptyFields = 20
+
+abbrev pub oneNumber : ℕ
+oneNumber = 2
+
 -- the kinds that a version or a flag decides; their codes count from here on
 abbrev pub firstCode : ℕ
 firstCode = 32
@@ -278,9 +281,6 @@ kindList =
     byVersion 23 (just 12) (just 0) ∷
     []
 
--- the same under names that stay shut
-unfoldable pub fieldTable : List ℕ
-fieldTable = fieldList
-
-unfoldable pub runTable : List ℕ
-runTable = runList
+-- the list under a name that stays shut
+unfoldable pub packedTable : List ℕ
+packedTable = packedList

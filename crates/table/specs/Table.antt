@@ -1,10 +1,10 @@
--- What the packed numbers say, in the words of `layouts`. Past its end a table reads as 0.
+-- What the packed numbers say, in the words of `layouts`. Past its end the table reads as 0.
 use Prim.Native.Nat.{ℕ, zero, suc, _-_, _/_, _%_}
 use mathlib.Core.List.{List, [], _∷_}
 use mathlib.Core.Bool.{Bool, true, false}
 use lib.ListN.{getD, drop}
 use lib.Dec.{ltb, eqb}
-use Rattle.layouts.specs.Primitive.{pick, Version}
+use Rattle.layouts.specs.Primitive.{pick, Version, version}
 use Rattle.layouts.specs.Shape.{Slot, dropped, asNumber, asFlag, asCount, asPresence, Role, passed, checked, kept, What, num, str, set, pairs, framed, maybe, typed, Item, always, from, below, Group, once, opt, many}
 use Rattle.table.specs.declared.Field.{Field}
 use Rattle.table.specs.declared.Run.{Run}
@@ -12,7 +12,7 @@ use Rattle.table.specs.declared.Row.{Row}
 use Rattle.table.specs.declared.Found.{Found}
 use Rattle.table.specs.declared.Found.the-variants as F
 use Rattle.table.specs.Numbered.{Numbered, just, numberedValue}
-use Rattle.table.specs.Packed.{fieldTable, runTable, rows, firstCode, kindList}
+use Rattle.table.specs.Packed.{packedTable, rows, firstCode, kindList}
 
 abbrev pub fieldOf : ℕ → Field
 fieldOf x = record { kind = x % 16; role = x / 16 % 4; slot = x / 64 % 64; gate = x / 4096 % 4; minor = x / 16384 % 256 }
@@ -21,10 +21,10 @@ abbrev pub runOf : ℕ → Run
 runOf x = record { kind = x % 4; slot = x / 4 % 64; start = x / 256 }
 
 unfoldable pub fieldAt : ℕ → Field
-fieldAt pc = fieldOf (getD fieldTable pc 0)
+fieldAt pc = fieldOf (getD packedTable pc 0)
 
 unfoldable pub runAt : ℕ → Run
-runAt i = runOf (getD runTable i 0)
+runAt i = runOf (getD packedTable i 0)
 
 -- ---- roles and slots by number
 unfoldable pub roleOf : ℕ → Role
@@ -59,7 +59,7 @@ items [] = []
 items (x ∷ xs) = consItem (fieldOf x) (λ u. items xs)
 
 unfoldable pub itemsAt : ℕ → List Item
-itemsAt pc = items (drop pc fieldTable)
+itemsAt pc = items (drop pc packedTable)
 
 -- ---- a run, and the runs of a layout up to its end
 unfoldable pub groupOf : (kind : ℕ) → Slot → List Item → Group
@@ -73,7 +73,11 @@ groupsIn [] = []
 groupsIn (x ∷ xs) = consRun (runOf x) (λ u. groupsIn xs)
 
 unfoldable pub groupsAt : ℕ → List Group
-groupsAt i = groupsIn (drop i runTable)
+groupsAt i = groupsIn (drop i packedTable)
+
+-- ---- a version as one number: 256 times its major, and its minor
+abbrev pub versionIn : ℕ → Version
+versionIn n = version (n / 256) (n % 256)
 
 -- ---- the row of an operation
 unfoldable pub findIn : List Row → (op : ℕ) → Found

@@ -1,18 +1,21 @@
 // What a layout's table holds: the types of a field, a run of fields and the row of an operation, and the numbers that they are told by. The packed tables
-// themselves are definitions here; `fields`, `field_runs`, `operations` and `kinds` have them as code.
+// themselves are definitions here; `packed`, `operations` and `kinds` have them as code.
 pub mod kinds;
 pub mod places;
 
+pub use places::EMPTY_FIELDS;
 pub use places::ERROR_BLOCK;
 pub use places::FEATURES_CLIENT;
 pub use places::FEATURES_DAEMON;
-pub use places::FIELD_COUNT;
 pub use places::HELLO_CLIENT;
 pub use places::HELLO_DAEMON;
 pub use places::INFO;
+pub use places::NOTHING;
 pub use places::NUMBER_MESSAGE;
 pub use places::OBSOLETE;
+pub use places::ONE_NUMBER;
 pub use places::RESULT_MESSAGE;
+pub use places::SIZE;
 pub use places::START_ACTIVITY;
 pub use places::STRING_MESSAGE;
 pub use places::STRING_SET;
@@ -36,9 +39,9 @@ pub struct Run {
 // An operation: its number, the runs of its arguments, of those that are skipped and of its reply, and the kinds of the three answers.
 pub struct Row {
     pub number: u64,
-    pub arguments: usize,
-    pub skipped: usize,
-    pub reply: usize,
+    pub arguments: u8,
+    pub skipped: u8,
+    pub reply: u8,
     pub arguments_kind: u8,
     pub skipped_kind: u8,
     pub reply_kind: u8,

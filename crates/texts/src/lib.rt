@@ -14,10 +14,7 @@ fn write_two(out: &mut [u8], a: &[u8], b: &[u8]) -> Written
 {
     let n = a.len() + b.len();
     if out.len() < n {
-        return Written::Refused {
-            which: layouts::OUTPUT_FULL,
-            place: 0,
-        };
+        return Written::Refused(layouts::refuse(layouts::OUTPUT_FULL, 0));
     }
     output::put(out, 0, a);
     output::put(out, a.len(), b);

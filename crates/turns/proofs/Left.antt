@@ -5,6 +5,7 @@ use mathlib.Core.List.{List, [], _++_, append-assoc, append-nil}
 use mathlib.Core.Bool.{Bool, true, false}
 use Rattle.layouts.specs.declared.Record.{Record}
 use Rattle.layouts.specs.Primitive.{pick, Result, ok, refused, onward}
+use Rattle.layouts.specs.Refusal.{refusal}
 use Rattle.layouts.specs.Shape.{Tree}
 use Rattle.layouts.specs.Pieces.{Pieces, run, skipOf}
 use Rattle.layouts.specs.Record.{blank, recordOf}
@@ -127,7 +128,7 @@ module _ (s u : List ℕ) (slots : ℕ) (whole : Heard) where
       }
 
   pub left-require : (o : Result Both) (es : List ℕ) (b : Bool) (which place stream : ℕ) (talk : Talk) → Left o es (pick b talk (lost which place stream))
-      → Left (onward o (required b which place stream)) es talk
+      → Left (onward o (required b (refusal which place stream))) es talk
   unfolding judgeTalk judgeHeard hear required
   left-require o es true which place stream talk l = left-by o _ es talk (onward-all o) l
   left-require o es false which place stream talk l =

@@ -5,13 +5,17 @@ use mathlib.Core.List.{List, [], _∷_}
 use mathlib.Core.Bool.{Bool, true, false}
 use lib.Dec.{eqb}
 use Rattle.layouts.specs.declared.Record.{Record}
+use Rattle.layouts.specs.declared.Refusal.{Refusal}
 use Rattle.layouts.specs.Primitive.{pick, Version, version, fromWire, atLeast, smaller, Result, ok, refused, onward}
-use Rattle.layouts.specs.Shape.{Tree}
-use Rattle.layouts.specs.Pieces.{run}
+use Rattle.layouts.specs.Refusal.{refusal, refusedBy}
+use Rattle.layouts.specs.Shape.{layout}
 use Rattle.layouts.specs.Record.{blank}
 use Rattle.layouts.specs.Judge.{Ended, judgeOf}
 use Rattle.layouts.specs.Handshake.{Both, onStream, streamOf, numberIn, versions, handshakeAnswer}
 use Rattle.layouts.proofs.Placed.{never-both}
+use Rattle.table.specs.Table.{groupsAt}
+use Rattle.items.specs.Items.{versionOf, firstOf, layoutPieces, piecesOf}
+use Rattle.items.proofs.Trees.{pieces-of}
 use Rattle.judge.specs.declared.Outcome.{Outcome}
 use Rattle.judge.specs.declared.Outcome.the-variants.{Fine, Refused}
 use Rattle.judge.specs.declared.Answer.{Answer}
@@ -27,16 +31,16 @@ module _ (h : Sofar) where
   unfolding said
   said-fine e = ap (λ (o : Outcome). unlessRefused o (bothOf h)) e
 
-  pub said-refused : (which place stream : ℕ) → h .outcome ≡ Refused which place stream → said h ≡ refused which place stream
+  pub said-refused : (x : Refusal) → h .outcome ≡ Refused x → said h ≡ refusedBy x
   unfolding said
-  said-refused which place stream e = ap (λ (o : Outcome). unlessRefused o (bothOf h)) e
+  said-refused x e = ap (λ (o : Outcome). unlessRefused o (bothOf h)) e
 
   -- a refusal stays
-  pub stays : {A : Type 0} (k : Both → Result A) (which place stream : ℕ) → h .outcome ≡ Refused which place stream → refused which place stream ≡ onward (said h) k
-  stays k which place stream e = ap (λ (o : Result Both). onward o k) (sym (said-refused which place stream e))
+  pub stays : {A : Type 0} (k : Both → Result A) (x : Refusal) → h .outcome ≡ Refused x → refusedBy x ≡ onward (said h) k
+  stays k x e = ap (λ (o : Result Both). onward o k) (sym (said-refused x e))
 
-  pub remains : (k : Both → Result Both) (which place stream : ℕ) → h .outcome ≡ Refused which place stream → said h ≡ onward (said h) k
-  remains k which place stream e = said-refused which place stream e ∙ stays k which place stream e
+  pub remains : (k : Both → Result Both) (x : Refusal) → h .outcome ≡ Refused x → said h ≡ onward (said h) k
+  remains k x e = said-refused x e ∙ stays k x e
 
   pub goes : {A : Type 0} (k : Both → Result A) → h .outcome ≡ Fine → k (bothOf h) ≡ onward (said h) k
   goes k e = ap (λ (o : Result Both). onward o k) (sym (said-fine e))
@@ -47,14 +51,14 @@ module _ (h : Sofar) where
     where
       by : (o : Outcome) → h .outcome ≡ o → x ≡ bothOf h
       by Fine e = ok-same (sym q ∙ said-fine e)
-      by (Refused which place stream) e = absurd (never-both (sym (said-refused which place stream e) ∙ q))
+      by (Refused r) e = absurd (never-both (sym (said-refused r e) ∙ q))
 
   pub said-known : {A : Type 0} (f g : Both → Result A) → f (bothOf h) ≡ g (bothOf h) → onward (said h) f ≡ onward (said h) g
   said-known f g q = by (h .outcome) refl
     where
       by : (o : Outcome) → h .outcome ≡ o → onward (said h) f ≡ onward (said h) g
       by Fine e = sym (goes f e) ∙ q ∙ goes g e
-      by (Refused which place stream) e = sym (stays f which place stream e) ∙ stays g which place stream e
+      by (Refused r) e = sym (stays f r e) ∙ stays g r e
 
 pub judged-back : (a : Answer) (o : Result Ended) → a ≡ answerAs (endedAs o) → judgedOf a ≡ o
 unfolding judgedOf
@@ -62,16 +66,16 @@ judged-back a (ok x) e = ap (λ (j : Answer). unlessRefused (j .outcome) (record
 judged-back a (refused which place stream) e = ap (λ (j : Answer). unlessRefused (j .outcome) (record { found = j .found; ends = j .ends })) e
 
 -- ---- a turn that was judged
-pub stream-bit : (d : Bool) (n : ℕ) → n ≡ pick d 1 0 → n ≡ streamOf d
-stream-bit false n e = e
-stream-bit true n e = e
+pub stream-bit : (d : Bool) (which place n : ℕ) → n ≡ pick d 1 0 → refusal which place n ≡ refusal which place (streamOf d)
+stream-bit false which place n e = ap (refusal which place) e
+stream-bit true which place n e = ap (refusal which place) e
 
 module _ (d : Bool) (x : Both) (a : Answer) where
-  pub after-refused : (which place stream i : ℕ) (o : Result Both) → a .outcome ≡ Refused which place stream → o ≡ refused which place i → i ≡ streamOf d
+  pub after-refused : (r y : Refusal) (o : Result Both) → a .outcome ≡ Refused r → o ≡ refusedBy y → y ≡ refusal (r .which) (r .place) (streamOf d)
       → o ≡ afterTurn d x (judgedOf a)
   unfolding afterTurn judgedOf
-  after-refused which place stream i o e q f =
-      q ∙ ap (refused which place) f
+  after-refused r y o e q f =
+      q ∙ ap refusedBy f
       ∙ ap (λ (p : Outcome). onward (onStream d (unlessRefused p (record { found = a .found; ends = a .ends }))) (λ e. ok (movedOn d x e))) (sym e)
 
   pub after-fine : (n m : ℕ) → n ≡ pick d (x .clientEnds) (a .ends) → m ≡ pick d (a .ends) (x .daemonEnds) → a .outcome ≡ Fine
@@ -82,30 +86,40 @@ module _ (d : Bool) (x : Both) (a : Answer) where
       ∙ ap (λ (i : ℕ). ok (record { found = a .found; clientEnds = pick d (x .clientEnds) (a .ends); daemonEnds = i })) g
       ∙ ap (λ (p : Outcome). onward (onStream d (unlessRefused p (record { found = a .found; ends = a .ends }))) (λ e. ok (movedOn d x e))) (sym e)
 
-module _ (d : Bool) (s : List ℕ) (slots : ℕ) (t : Tree) (h : Sofar) where
-  pub turn-fine : h .outcome ≡ Fine → (at : ℕ) → at ≡ placeOn d (bothOf h) → (a : Answer) → a ≡ answerAs (endedAs (judgeOf s slots 0 (h .found) (run t s at)))
-      → (r : Sofar) → said r ≡ afterTurn d (bothOf h) (judgedOf a) → said r ≡ onward (said h) (turnOf d s slots t)
+module _ (d : Bool) (s : List ℕ) (slots : ℕ) (v : Version) (i : ℕ) (h : Sofar) where
+  pub turn-fine : h .outcome ≡ Fine → (at : ℕ) → at ≡ placeOn d (bothOf h) → (l : ℕ) → (versionOf l ≡ v) × (firstOf l ≡ i)
+      → (a : Answer) → a ≡ answerAs (endedAs (judgeOf s slots 0 (h .found) (piecesOf l s at)))
+      → (r : Sofar) → said r ≡ afterTurn d (bothOf h) (judgedOf a) → said r ≡ onward (said h) (turnOf d s slots (layout v (groupsAt i)))
   unfolding turnOf
-  turn-fine e at p a q r z =
-      z ∙ ap (afterTurn d (bothOf h)) (judged-back a _ q ∙ ap (λ (n : ℕ). judgeOf s slots 0 (h .found) (run t s n)) p) ∙ goes h (turnOf d s slots t) e
+  turn-fine e at p l m a q r z =
+      z ∙ ap (afterTurn d (bothOf h)) (judged-back a _ q ∙ ap (judgeOf s slots 0 (h .found)) (pieces-of l v i m s at ∙ ap (layoutPieces v i s) p))
+      ∙ goes h (turnOf d s slots (layout v (groupsAt i))) e
 
 -- ---- a condition
-module _ (h : Sofar) (which place stream : ℕ) where
-  pub holds-fine : (b : Bool) → h .outcome ≡ Fine → b ≡ true → said h ≡ onward (said h) (required b which place stream)
+module _ (h : Sofar) (x : Refusal) where
+  pub holds-fine : (b : Bool) → h .outcome ≡ Fine → b ≡ true → said h ≡ onward (said h) (required b x)
   unfolding required
-  holds-fine b e f = said-fine h e ∙ ap (λ (c : Bool). required c which place stream (bothOf h)) (sym f) ∙ goes h (required b which place stream) e
+  holds-fine b e f = said-fine h e ∙ ap (λ (c : Bool). required c x (bothOf h)) (sym f) ∙ goes h (required b x) e
 
-  pub fails-fine : (b : Bool) (o : Result Both) → h .outcome ≡ Fine → b ≡ false → o ≡ refused which place stream → o ≡ onward (said h) (required b which place stream)
+  pub fails-fine : (b : Bool) (o : Result Both) → h .outcome ≡ Fine → b ≡ false → o ≡ refusedBy x → o ≡ onward (said h) (required b x)
   unfolding required
-  fails-fine b o e f q = q ∙ ap (λ (c : Bool). required c which place stream (bothOf h)) (sym f) ∙ goes h (required b which place stream) e
+  fails-fine b o e f q = q ∙ ap (λ (c : Bool). required c x (bothOf h)) (sym f) ∙ goes h (required b x) e
 
 -- on a number that was looked up
-module _ (o : Result Both) (which stream : ℕ) where
-  pub on-number : (q : Result Both) (b : Bool) (place place' n n' x : ℕ) → q ≡ onward o (required b which place stream) → b ≡ eqb n x → n ≡ n' → place ≡ place'
-      → q ≡ onward o (required (eqb n' x) which place' stream)
-  on-number q b place place' n n' x e f g k =
-      e ∙ ap (λ (c : Bool). onward o (required c which place stream)) (f ∙ ap (λ (m : ℕ). eqb m x) g)
-      ∙ ap (λ (m : ℕ). onward o (required (eqb n' x) which m stream)) k
+pub on-number : (o q : Result Both) (b : Bool) (y : Refusal) (which place place' stream n n' x : ℕ) → q ≡ onward o (required b y) → b ≡ eqb n x → n ≡ n'
+    → y ≡ refusal which place stream → place ≡ place' → q ≡ onward o (required (eqb n' x) (refusal which place' stream))
+on-number o q b y which place place' stream n n' x e f g k h =
+    e ∙ ap (λ (c : Bool). onward o (required c y)) (f ∙ ap (λ (m : ℕ). eqb m x) g)
+    ∙ ap (λ (r : Refusal). onward o (required (eqb n' x) r)) (k ∙ ap (λ (m : ℕ). refusal which m stream) h)
+
+-- one condition after the other
+pub on-numbers : (o p q : Result Both) (b b' : Bool) (y y' : Refusal) (which place stream which' place' stream' m n x m' n' x' : ℕ)
+    → p ≡ onward o (required b y) → b ≡ eqb m x → m ≡ n → y ≡ refusal which place stream
+    → q ≡ onward p (required b' y') → b' ≡ eqb m' x' → m' ≡ n' → y' ≡ refusal which' place' stream'
+    → q ≡ onward (onward o (required (eqb n x) (refusal which place stream))) (required (eqb n' x') (refusal which' place' stream'))
+on-numbers o p q b b' y y' which place stream which' place' stream' m n x m' n' x' e f g k e' f' g' k' =
+    on-number p q b' y' which' place' place' stream' m' n' x' e' f' g' k' refl
+    ∙ ap (λ (r : Result Both). onward r (required (eqb n' x') (refusal which' place' stream'))) (on-number o p b y which place place stream m n x e f g k refl)
 
 -- ---- versions
 pub second-smaller : (v w : Version) (b : Bool) → b ≡ atLeast v w → b ≡ true → w ≡ smaller v w
@@ -127,12 +141,12 @@ all-versions c d v m n trust e f g =
 
 -- ---- answers
 module _ (h : Sofar) (c : Version) where
-  pub answer-refused : (which place stream : ℕ) (f : Record) → h .outcome ≡ Refused which place stream → f ≡ blank
+  pub answer-refused : (x : Refusal) (f : Record) → h .outcome ≡ Refused x → f ≡ blank
       → record { outcome = h .outcome; kind = 0; ends = 0; ends2 = 0; found = f } ≡ answerAs (onward (said h) (handshakeAnswer c))
-  answer-refused which place stream f e q =
+  answer-refused x f e q =
       ap (λ (r : Record). record { outcome = h .outcome; kind = 0; ends = 0; ends2 = 0; found = r }) q
       ∙ ap (λ (o : Outcome). record { outcome = o; kind = 0; ends = 0; ends2 = 0; found = blank }) e
-      ∙ ap answerAs (stays h (handshakeAnswer c) which place stream e)
+      ∙ ap answerAs (stays h (handshakeAnswer c) x e)
 
   abbrev reply : Outcome → List ℕ → Answer
   reply o ns =

@@ -5,6 +5,7 @@ use mathlib.Core.List.{List, [], _++_, append-assoc}
 use mathlib.Core.Bool.{true, false}
 use lib.Dec.{eqb}
 use Rattle.layouts.specs.Primitive.{Version, version, fromWire, smaller, clientMagicWrong, daemonMagicWrong, notLast, Result, ok, refused, onward}
+use Rattle.layouts.specs.Refusal.{refusal}
 use Rattle.layouts.specs.Shape.{layout}
 use Rattle.layouts.specs.Record.{blank}
 use Rattle.layouts.specs.Judge.{entriesOf}
@@ -46,7 +47,7 @@ module _ (s u : List ℕ) (slots : ℕ) (v : Version) (first : Sofar) (begun : s
   -- the last turn of both
   last-left : (whole : Heard) (h informed done : Sofar) (es : List ℕ)
       → said informed ≡ onward (said h) (turnOf true u slots (layout v (groupsAt info)))
-      → said done ≡ onward (said informed) (required (eqb (numberIn (informed .found) 5) Last) notLast (informed .«daemon_ends» - 8) 1)
+      → said done ≡ onward (said informed) (required (eqb (numberIn (informed .found) 5) Last) (refusal notLast (informed .«daemon_ends» - 8) 1))
       → Left s u slots whole (said h) es (daemonInfo v) → Left s u slots whole (said done) (es ++ infoEntries h) over
   unfolding daemonInfo
   last-left whole h informed done es e f l =
@@ -58,14 +59,14 @@ module _ (s u : List ℕ) (slots : ℕ) (v : Version) (first : Sofar) (begun : s
       → said asked ≡ onward (said first) (turnOf false s slots (layout (version 0 0) (groupsAt helloClient)))
       → said hello ≡ onward (said asked) (turnOf true u slots (layout (version 0 0) (groupsAt helloDaemon)))
       → said met
-      ≡ onward (onward (said hello) (required (eqb (numberIn (hello .found) 0) clientMagic) clientMagicWrong 0 0))
-      (required (eqb (numberIn (hello .found) 2) daemonMagic) daemonMagicWrong 0 1)
+      ≡ onward (onward (said hello) (required (eqb (numberIn (hello .found) 0) clientMagic) (refusal clientMagicWrong 0 0)))
+      (required (eqb (numberIn (hello .found) 2) daemonMagic) (refusal daemonMagicWrong 0 1))
       → v ≡ smaller (fromWire (numberIn (hello .found) 1)) (fromWire (numberIn (hello .found) 3))
       → said offered ≡ onward (said met) (turnOf false s slots (layout v (groupsAt featuresClient)))
       → said agreed ≡ onward (said offered) (turnOf true u slots (layout v (groupsAt featuresDaemon)))
       → said settled ≡ onward (said agreed) (turnOf false s slots (layout v (groupsAt obsolete)))
       → said informed ≡ onward (said settled) (turnOf true u slots (layout v (groupsAt info)))
-      → said done ≡ onward (said informed) (required (eqb (numberIn (informed .found) 5) Last) notLast (informed .«daemon_ends» - 8) 1)
+      → said done ≡ onward (said informed) (required (eqb (numberIn (informed .found) 5) Last) (refusal notLast (informed .«daemon_ends» - 8) 1))
       → HandshakeRead s u slots v met offered settled done
   unfolding handshake greeting
   handshake-left asked hello met offered agreed settled informed done e1 e2 e3 e4 e5 e6 e7 e8 e9 =
@@ -81,11 +82,11 @@ module _ (s u : List ℕ) (slots : ℕ) (v : Version) (first : Sofar) (begun : s
 
   pub daemon-left : (c : Version) (hello met agreed informed done : Sofar)
       → said hello ≡ onward (said first) (turnOf true u slots (layout (version 0 0) (groupsAt helloDaemon)))
-      → said met ≡ onward (said hello) (required (eqb (numberIn (hello .found) 2) daemonMagic) daemonMagicWrong 0 1)
+      → said met ≡ onward (said hello) (required (eqb (numberIn (hello .found) 2) daemonMagic) (refusal daemonMagicWrong 0 1))
       → (d : Version) → v ≡ smaller c d → d ≡ fromWire (numberIn (hello .found) 3)
       → said agreed ≡ onward (said met) (turnOf true u slots (layout v (groupsAt featuresDaemon)))
       → said informed ≡ onward (said agreed) (turnOf true u slots (layout v (groupsAt info)))
-      → said done ≡ onward (said informed) (required (eqb (numberIn (informed .found) 5) Last) notLast (informed .«daemon_ends» - 8) 1)
+      → said done ≡ onward (said informed) (required (eqb (numberIn (informed .found) 5) Last) (refusal notLast (informed .«daemon_ends» - 8) 1))
       → DaemonRead s u slots v c met agreed done
   unfolding daemonHandshake daemonGreeting
   daemon-left c hello met agreed informed done e1 e2 d e3 ed e4 e5 e6 =

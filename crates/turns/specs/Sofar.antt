@@ -2,7 +2,9 @@
 use Prim.Native.Nat.{ℕ}
 use mathlib.Core.List.{List}
 use mathlib.Core.Bool.{Bool}
-use Rattle.layouts.specs.Primitive.{pick, Result, ok, refused, onward}
+use Rattle.layouts.specs.declared.Refusal.{Refusal}
+use Rattle.layouts.specs.Primitive.{pick, Result, ok, onward}
+use Rattle.layouts.specs.Refusal.{refusedBy}
 use Rattle.layouts.specs.Shape.{Tree}
 use Rattle.layouts.specs.Pieces.{run}
 use Rattle.layouts.specs.Record.{blank}
@@ -15,7 +17,7 @@ use Rattle.turns.specs.declared.Sofar.{Sofar}
 
 abbrev pub unlessRefused : {A : Type 0} → Outcome → A → Result A
 unlessRefused Fine a = ok a
-unlessRefused (Refused which place stream) a = refused which place stream
+unlessRefused (Refused r) a = refusedBy r
 
 -- nothing has been read
 abbrev pub start : Both
@@ -45,5 +47,5 @@ unfoldable pub turnOf : Bool → List ℕ → (slots : ℕ) → Tree → Both �
 turnOf d s slots t x = afterTurn d x (judgeOf s slots 0 (x .found) (run t s (placeOn d x)))
 
 -- refused, unless the condition holds
-unfoldable pub required : Bool → (which place stream : ℕ) → Both → Result Both
-required b which place stream x = pick b (ok x) (refused which place stream)
+unfoldable pub required : Bool → Refusal → Both → Result Both
+required b r x = pick b (ok x) (refusedBy r)

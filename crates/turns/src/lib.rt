@@ -4,20 +4,21 @@ ghost use mathlib.Core.Path.{_≡_};
 ghost use mathlib.Core.List.{[], _++_};
 ghost use Prim.Native.Nat.{_-_, _<_};
 ghost use lib.Dec.{eqb};
-ghost use Rattle.layouts.specs.Primitive.{pick, version, fromWire, smaller, clientMagicWrong, daemonMagicWrong, notLast, ok, refused, onward};
+ghost use Rattle.layouts.specs.Primitive.{pick, version, fromWire, smaller, clientMagicWrong, daemonMagicWrong, notLast, ok, onward};
+ghost use Rattle.layouts.specs.Refusal.{refusal, refusedBy};
 ghost use Rattle.layouts.specs.Shape.{layout};
 ghost use Rattle.layouts.specs.Record.{blank};
 ghost use Rattle.layouts.specs.Stderr.{Last};
-ghost use Rattle.layouts.specs.Handshake.{numberIn, clientMagic, daemonMagic, versions, handshakeAnswer, hear, heardEntries, handshake, daemonHandshake, parseHandshake, parseDaemonHandshake};
+ghost use Rattle.layouts.specs.Handshake.{streamOf, numberIn, clientMagic, daemonMagic, versions, handshakeAnswer, hear, heardEntries, handshake, daemonHandshake, parseHandshake, parseDaemonHandshake};
 ghost use Rattle.table.specs.Table.{groupsAt};
 ghost use Rattle.versions.specs.Handshake.{versionOf};
 ghost use Rattle.judge.specs.Judged.{answerAs};
 ghost use Rattle.turns.specs.Sofar.{start, bothOf, said, judgedOf, turnOf, required, afterTurn};
 ghost use Rattle.turns.specs.Greeted.{clientEntries, daemonEntries, reported};
-use items::Layout;
 use judge::Answer;
 use judge::Outcome;
 use layouts::Record;
+use layouts::Refusal;
 use versions::handshake::ProtocolVersion;
 
 const WORKER_MAGIC_1: u64 = 0x6e697863;
@@ -69,16 +70,12 @@ impl Sofar {
         }
     }
 
-    fn refuse(self, which: u64, place: usize, stream: u64) -> Self
-        ensures { λ r. ⌜ said r ≡ refused which place stream ⌝ }
+    fn refuse(self, refusal: Refusal) -> Self
+        ensures { λ r. ⌜ said r ≡ refusedBy refusal ⌝ }
     {
         let found = self.found;
         Self {
-            outcome: Outcome::Refused {
-                which,
-                place,
-                stream,
-            },
+            outcome: Outcome::Refused(refusal),
             found,
             client_ends: self.client_ends,
             daemon_ends: self.daemon_ends,
@@ -101,11 +98,7 @@ impl Sofar {
         let found = turn.found;
         let o = turn.outcome;
         match o {
-            Outcome::Refused {
-                which,
-                place,
-                stream: _,
-            } => self.refuse(which, place, bit(of_daemon)),
+            Outcome::Refused(r) => self.refuse(on_stream(of_daemon, r.which, r.place)),
             Outcome::Fine => Self {
                 outcome: Outcome::Fine,
                 found,
@@ -116,7 +109,7 @@ impl Sofar {
     }
 
     // A turn on the stream s, which is the client's or the daemon's: the layout that starts at a run. After a refusal nothing is read.
-    fn turn(self, s: &[u8], of_daemon: bool, v: ProtocolVersion, run: usize, slots: usize) -> Self
+    fn turn(self, s: &[u8], of_daemon: bool, v: ProtocolVersion, run: u8, slots: usize) -> Self
         ensures { λ r. ⌜ said r ≡ onward (said self) (turnOf «of_daemon» (now (s .entry)) slots (layout (versionOf v) (groupsAt run))) ⌝ }
     {
         let o = self.outcome;
@@ -125,11 +118,7 @@ impl Sofar {
         };
         let at = either(of_daemon, self.daemon_ends, self.client_ends);
         let found = self.found;
-        let layout = Layout {
-            major: v.major,
-            minor: v.minor,
-            first: run,
-        };
+        let layout = items::layout(v.major, v.minor, run);
         self.after(
             of_daemon,
             judge::judge_record(s, at, layout, slots, 0, found),
@@ -137,8 +126,8 @@ impl Sofar {
     }
 
     // Refused, unless the condition holds or there was a refusal before.
-    fn require(self, holds: bool, which: u64, place: usize, stream: u64) -> Self
-        ensures { λ r. ⌜ said r ≡ onward (said self) (required holds which place stream) ⌝ }
+    fn require(self, holds: bool, refusal: Refusal) -> Self
+        ensures { λ r. ⌜ said r ≡ onward (said self) (required holds refusal) ⌝ }
     {
         let o = self.outcome;
         let Outcome::Fine = o else {
@@ -147,33 +136,39 @@ impl Sofar {
         if holds {
             return self;
         }
-        self.refuse(which, place, stream)
+        self.refuse(refusal)
     }
 
     // The client's magic is tested first, after all four numbers are read.
     fn require_magics(self) -> Self
-        ensures { λ r. ⌜ said r ≡ onward (onward (said self) (required (eqb (numberIn (self .found) 0) clientMagic) clientMagicWrong 0 0)) (required (eqb (numberIn (self .found) 2) daemonMagic) daemonMagicWrong 0 1) ⌝ }
+        ensures { λ r. ⌜ said r ≡ onward (onward (said self) (required (eqb (numberIn (self .found) 0) clientMagic) (refusal clientMagicWrong 0 0))) (required (eqb (numberIn (self .found) 2) daemonMagic) (refusal daemonMagicWrong 0 1)) ⌝ }
     {
         let client_holds = self.number(CLIENT_MAGIC) == WORKER_MAGIC_1;
         let daemon_holds = self.number(DAEMON_MAGIC) == WORKER_MAGIC_2;
-        let met = self.require(client_holds, layouts::CLIENT_MAGIC_WRONG, 0, 0);
-        met.require(daemon_holds, layouts::DAEMON_MAGIC_WRONG, 0, 1)
+        let met = self.require(
+            client_holds,
+            on_stream(false, layouts::CLIENT_MAGIC_WRONG, 0),
+        );
+        met.require(
+            daemon_holds,
+            on_stream(true, layouts::DAEMON_MAGIC_WRONG, 0),
+        )
     }
 
     fn require_daemon_magic(self) -> Self
-        ensures { λ r. ⌜ said r ≡ onward (said self) (required (eqb (numberIn (self .found) 2) daemonMagic) daemonMagicWrong 0 1) ⌝ }
+        ensures { λ r. ⌜ said r ≡ onward (said self) (required (eqb (numberIn (self .found) 2) daemonMagic) (refusal daemonMagicWrong 0 1)) ⌝ }
     {
         let holds = self.number(DAEMON_MAGIC) == WORKER_MAGIC_2;
-        self.require(holds, layouts::DAEMON_MAGIC_WRONG, 0, 1)
+        self.require(holds, on_stream(true, layouts::DAEMON_MAGIC_WRONG, 0))
     }
 
     // The daemon's last number has to be Last.
     fn require_last(self) -> Self
-        ensures { λ r. ⌜ said r ≡ onward (said self) (required (eqb (numberIn (self .found) 5) Last) notLast (self .«daemon_ends» - 8) 1) ⌝ }
+        ensures { λ r. ⌜ said r ≡ onward (said self) (required (eqb (numberIn (self .found) 5) Last) (refusal notLast (self .«daemon_ends» - 8) 1)) ⌝ }
     {
         let holds = self.number(LAST) == STDERR_LAST;
         let place = place_before(self.daemon_ends);
-        self.require(holds, layouts::NOT_LAST, place, 1)
+        self.require(holds, on_stream(true, layouts::NOT_LAST, place))
     }
 
     fn client_version(self) -> ProtocolVersion
@@ -223,6 +218,17 @@ impl Sofar {
                 payload: found.payload,
             },
         }
+    }
+}
+
+// A refusal on one of the two streams.
+fn on_stream(of_daemon: bool, which: u64, place: usize) -> Refusal
+    ensures { λ r. ⌜ r ≡ refusal which place (streamOf «of_daemon») ⌝ }
+{
+    Refusal {
+        which,
+        place,
+        stream: bit(of_daemon),
     }
 }
 

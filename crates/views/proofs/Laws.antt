@@ -13,6 +13,8 @@ use lib.ListN.{length, getD, take, drop, drop-of-length-le}
 use lib.Seq.{drop-cons, getD-take, length-take-le}
 use Rattle.text.specs.Prefix.{isText}
 use Rattle.layouts.specs.Primitive.{noSuchEntry, badEntry, Result, ok, refused, same}
+use Rattle.layouts.specs.declared.Refusal.{Refusal}
+use Rattle.layouts.specs.Refusal.{refusedBy}
 use Rattle.layouts.specs.Writers.{slotsOf, entryStart, entryLength, viewOf, partOf, storeDirectory, isStorePath}
 use Rattle.views.specs.Fault.{faultOf}
 
@@ -48,10 +50,10 @@ module _ (bytes es : List ℕ) (i : ℕ) where
   part w = rw (add-sub-cancel-left, good (w .slot) (w .within))
 
   -- a refused one is the empty part
-  pub empty : (which place : ℕ) → refused which place 0 ≡ faultOf (viewOf bytes es i) → partOf (viewOf bytes es i) ≡ []
-  empty which place e = go (viewOf bytes es i) e
+  pub empty : (x : Refusal) → refusedBy x ≡ faultOf (viewOf bytes es i) → partOf (viewOf bytes es i) ≡ []
+  empty x e = go (viewOf bytes es i) e
     where
-      go : (o : Result (List ℕ)) → refused which place 0 ≡ faultOf o → partOf o ≡ []
+      go : (o : Result (List ℕ)) → refusedBy x ≡ faultOf o → partOf o ≡ []
       go (ok part) e = let z : _≡_ {A = ℕ} 0 1 = cc in absurd (omega arith)
       go (refused w p stream) e = refl
 

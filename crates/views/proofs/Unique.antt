@@ -6,6 +6,7 @@ use contract.Lifetimes.{Lfts}
 use borrow.Fn.Kinds.{PK, RK, Out, Dens, resT, endedOf}
 use denote.Triple.Clauses.{AtExit}
 use Rattle.layouts.specs.Primitive.{Result, ok, refused}
+use Rattle.layouts.specs.Refusal.{refusal}
 use Rattle.views.specs.declared.Fault.{Fault}
 use Rattle.views.specs.declared.Fault.the-variants.{None, Refused}
 use Rattle.views.specs.Fault.{meaning}
@@ -28,11 +29,11 @@ Determined n ps k Post f =
 -- a fault is told by its meaning
 abbrev toldBy : Result (Unit {0}) → Fault
 toldBy (ok u) = None
-toldBy (refused which place stream) = Refused which place
+toldBy (refused which place stream) = Refused (refusal which place stream)
 
 told-by : (r : Fault) → toldBy (meaning r) ≡ r
 told-by None = refl
-told-by (Refused which place) = refl
+told-by (Refused r) = refl
 
 pub fault-unique : (r r' : Fault) → meaning r ≡ meaning r' → r ≡ r'
 fault-unique r r' e = sym (told-by r) ∙ ap toldBy e ∙ told-by r'

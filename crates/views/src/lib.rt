@@ -6,6 +6,7 @@ ghost use lib.ListN.{length, take};
 ghost use Rattle.layouts.specs.Primitive.{same};
 ghost use Rattle.layouts.specs.Writers.{viewOf, featureOf, partOf, storeDirectory, isStorePath};
 ghost use Rattle.views.specs.Fault.{meaning, faultOf};
+use layouts::Refusal;
 
 const DIRECTORY_LENGTH: usize = 11;
 
@@ -14,7 +15,7 @@ const SHORTEST_PATH: usize = 44;
 
 pub enum Fault {
     None,
-    Refused { which: u64, place: usize },
+    Refused(Refusal),
 }
 
 // Why there is no string number i in these bytes, if so.
@@ -22,25 +23,16 @@ pub fn entry_fault(bytes: &[u8], entries: &[u64], i: usize) -> Fault
     ensures { λ r. ⌜ meaning r ≡ faultOf (viewOf (now (bytes .entry)) (now (entries .entry)) i) ⌝ }
 {
     if entries.len() / 2 <= i {
-        return Fault::Refused {
-            which: layouts::NO_SUCH_ENTRY,
-            place: i,
-        };
+        return Fault::Refused(layouts::refuse(layouts::NO_SUCH_ENTRY, i));
     }
     let start = entries[2 * i];
     let len = entries[2 * i + 1];
     let n = bytes.len() as u64;
     if n < start {
-        return Fault::Refused {
-            which: layouts::BAD_ENTRY,
-            place: i,
-        };
+        return Fault::Refused(layouts::refuse(layouts::BAD_ENTRY, i));
     }
     if n - start < len {
-        return Fault::Refused {
-            which: layouts::BAD_ENTRY,
-            place: i,
-        };
+        return Fault::Refused(layouts::refuse(layouts::BAD_ENTRY, i));
     }
     Fault::None
 }
@@ -57,7 +49,7 @@ pub fn entry<'a, 'b>(bytes: &'a [u8], entries: &'b [u64], i: usize) -> &'a [u8]
             let e = (start + len) as usize;
             &bytes[a..e]
         }
-        Fault::Refused { which: _, place: _ } => &bytes[..0],
+        Fault::Refused(_) => &bytes[..0],
     }
 }
 

@@ -14,7 +14,7 @@ use Rattle.wire.specs.Answers.{numberRead, totalRead}
 -- the total of frames as number 0
 total-number : (r : Read) → numberRead r ≡ onward (totalRead r) numbered
 total-number (R.Value v next) = refl
-total-number (R.Refused which place) = refl
+total-number (R.Refused r) = refl
 
 pub framed-skip : (s : List ℕ) (at : ℕ) (r : Read) → totalRead r ≡ readFramed s at (length s) → numberRead r ≡ skipFramed s at
 framed-skip s at r e = total-number r ∙ ap (λ (o : Result Ended). onward o numbered) e ∙ skip-frames s at

@@ -1,11 +1,13 @@
 -- What is read of the field of a set: the count was found, and so many strings were passed.
 use Prim.Native.Nat.{ℕ, zero, suc, _+_, _/_}
-use mathlib.Core.Path.{_≡_, refl, sym, _∙_, ap}
+use mathlib.Core.Path.{_≡_, refl, sym, _∙_, ap, subst}
 use mathlib.Core.List.{List}
 use mathlib.Core.Bool.{Bool, false}
 use lib.ListN.{length}
 use native.Mathlib.Omega.{arith}
 use Rattle.layouts.specs.Primitive.{numberAt, Result, ok, refused, onward}
+use Rattle.layouts.specs.declared.Refusal.{Refusal}
+use Rattle.layouts.specs.Refusal.{plain, refusedBy}
 use Rattle.layouts.specs.declared.Record.{Record}
 use Rattle.layouts.specs.Shape.{asNumber, asCount, Role, passed, kept, set, Tree, stop, strings, units}
 use Rattle.layouts.specs.Pieces.{Pieces, end, Text, afterText, run, skipOf}
@@ -27,20 +29,20 @@ use Rattle.runs.proofs.Filling.{lent-kept}
 use Rattle.strings.specs.declared.Passed as R
 use Rattle.strings.specs.declared.Passed.the-variants as R'
 use Rattle.strings.specs.Strings as Row
-use Rattle.strings.specs.Strings.{row, stays, bare, Passes}
+use Rattle.strings.specs.Strings.{row, stays, bare, Passes, PastFrom}
 use Rattle.strings.proofs.Rows.{row-skips}
 
 module _ (s : List ℕ) (at : ℕ) (r : Number) (e : numRead r ≡ peekNumber s at) where
-  module _ (q : r ≡ Short) where
-    pub skip-set-cut : refused 1 at 0 ≡ skipStringSet s at
+  module _ (q : r ≡ Short) (x : Refusal) (p : x ≡ plain 1 at) where
+    pub skip-set-cut : refusedBy x ≡ skipStringSet s at
     unfolding judgeOf
-    skip-set-cut = rw (field-set passed (asNumber 0), ask-short s at (numberAt s at) refl (asNumber 0) (λ n. units passed 0 n (λ u. stop)) (number-short s at r e q))
+    skip-set-cut = rw (p, field-set passed (asNumber 0), ask-short s at (numberAt s at) refl (asNumber 0) (λ n. units passed 0 n (λ u. stop)) (number-short s at r e q))
 
-    pub set-cut : (slots : ℕ) (new lent : List ℕ) → (refused 1 at 0 ≡ readStringSet s at slots) × (lent ≡ lentAfter (readStringSet s at slots) new lent)
+    pub set-cut : (slots : ℕ) (new lent : List ℕ) → (refusedBy x ≡ readStringSet s at slots) × (lent ≡ lentAfter (readStringSet s at slots) new lent)
     unfolding judgeOf
     set-cut slots new lent =
-        let t : refused 1 at 0 ≡ readStringSet s at slots = rw (field-set kept (asCount 0), ask-short s at (numberAt s at) refl (asCount 0) (λ n. units kept 0 n (λ u. stop)) (number-short s at r e q)) in
-        (t, lent-kept _ new lent 1 at t)
+        let t : refusedBy x ≡ readStringSet s at slots = rw (p, field-set kept (asCount 0), ask-short s at (numberAt s at) refl (asCount 0) (λ n. units kept 0 n (λ u. stop)) (number-short s at r e q)) in
+        (t, lent-kept _ new lent x t)
 
   module _ (n : ℕ) (q : r ≡ Value n) (o : Passed) where
     module _ (lent : List ℕ) (f : passedTo o ≡ stringsAt s (length lent / 2) 0 n (at + 8)) (out : List ℕ)
@@ -72,9 +74,9 @@ module _ (s : List ℕ) (at : ℕ) (r : Number) (e : numRead r ≡ peekNumber s 
         rw (← set-is, entries-is, lent-on) h,
       )
 
-      pub set-refused : (which place : ℕ) → o ≡ P.Refused which place → (refused which place 0 ≡ readStringSet s at (length lent / 2))
+      pub set-refused : (x : Refusal) → o ≡ P.Refused x → (refusedBy x ≡ readStringSet s at (length lent / 2))
           × (out ≡ lentAfter (readStringSet s at (length lent / 2)) (entriesOf (run (field (set kept (asCount 0))) s at)) lent)
-      set-refused which place g = set-as (P.Refused which place) g
+      set-refused x g = set-as (P.Refused x) g
 
       pub set-read : (next : ℕ) → o ≡ P.Past next → (counted next ≡ readStringSet s at (length lent / 2))
           × (out ≡ lentAfter (readStringSet s at (length lent / 2)) (entriesOf (run (field (set kept (asCount 0))) s at)) lent)
@@ -115,6 +117,6 @@ module _ (s : List ℕ) (at : ℕ) (r : Number) (e : numRead r ≡ peekNumber s 
   unfolding skipOf
   skip-set-past next g = skip-set-as (R'.Past next) g
 
-  pub skip-set-refused : (which place : ℕ) → o ≡ R'.Refused which place → refused which place 0 ≡ skipStringSet s at
+  pub skip-set-refused : PastFrom (at + 8) o → (x : Refusal) → o ≡ R'.Refused x → refusedBy x ≡ skipStringSet s at
   unfolding skipOf
-  skip-set-refused which place g = skip-set-as (R'.Refused which place) g
+  skip-set-refused h x g = let z : x .stream ≡ 0 = subst (PastFrom (at + 8)) g h in rw z (skip-set-as (R'.Refused x) g)

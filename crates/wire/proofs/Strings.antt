@@ -5,6 +5,8 @@ use mathlib.Core.List.{List}
 use mathlib.Core.Bool.{Bool, true, false}
 use lib.ListN.{length}
 use Rattle.layouts.specs.Primitive.{numberAt, Result, ok, refused, onward}
+use Rattle.layouts.specs.declared.Refusal.{Refusal}
+use Rattle.layouts.specs.Refusal.{refusedBy}
 use Rattle.layouts.specs.Shape.{passed, kept}
 use Rattle.layouts.specs.Pieces.{Text, afterText, run, end, skipOf}
 use Rattle.layouts.specs.Record.{blank}
@@ -60,5 +62,5 @@ module _ (s : List ℕ) (at : ℕ) where
     pub skip-past : (start len : ℕ) (next : Cursor) → r ≡ S.Contents start len next → ok (next .at) ≡ skipString s at
     skip-past start len next q = ends-is (S.Contents start len next) q
 
-    pub skip-refused : (which place : ℕ) → r ≡ S.Refused which place → refused which place 0 ≡ skipString s at
-    skip-refused which place q = ends-is (S.Refused which place) q
+    pub skip-refused : (x : Refusal) → r ≡ S.Refused x → refusedBy x ≡ skipString s at
+    skip-refused x q = ends-is (S.Refused x) q

@@ -7,6 +7,7 @@ use borrow.Fn.Kinds.{Dens, endedOf}
 use denote.Triple.Clauses.{AtExit}
 use denote.Ref.{now}
 use Rattle.layouts.specs.Primitive.{Result, ok, refused}
+use Rattle.layouts.specs.Refusal.{refusal}
 use Rattle.layouts.specs.Pieces.{Num, value, short}
 use Rattle.layouts.specs.Judge.{Ended}
 use Rattle.wire.specs.Answers.{numberRead, countRead, totalRead, peeked, skippedTo, spanned}
@@ -43,25 +44,25 @@ use Rattle.wire.proofs.Cursor.skip_framed.Kinds as skip-framed-kinds
 
 abbrev readBy : (Ended → ℕ) → Result Ended → Read
 readBy f (ok x) = R.Value (f x) (record { at = x .ends })
-readBy f (refused which place stream) = R.Refused which place
+readBy f (refused which place stream) = R.Refused (refusal which place stream)
 
 number-back : (r : Read) → readBy (λ x. getD (x .found .numbers) 0 0) (numberRead r) ≡ r
 number-back (R.Value v next) = refl
-number-back (R.Refused which place) = refl
+number-back (R.Refused r) = refl
 
 number-told : {b : Result Ended} (r r′ : Read) → numberRead r ≡ b → numberRead r′ ≡ b → r ≡ r′
 number-told = told numberRead (readBy (λ x. getD (x .found .numbers) 0 0)) number-back
 
 count-back : (r : Read) → readBy (λ x. x .found .entries) (countRead r) ≡ r
 count-back (R.Value v next) = refl
-count-back (R.Refused which place) = refl
+count-back (R.Refused r) = refl
 
 count-told : {b : Result Ended} (r r′ : Read) → countRead r ≡ b → countRead r′ ≡ b → r ≡ r′
 count-told = told countRead (readBy (λ x. x .found .entries)) count-back
 
 total-back : (r : Read) → readBy (λ x. x .found .payload) (totalRead r) ≡ r
 total-back (R.Value v next) = refl
-total-back (R.Refused which place) = refl
+total-back (R.Refused r) = refl
 
 total-told : {b : Result Ended} (r r′ : Read) → totalRead r ≡ b → totalRead r′ ≡ b → r ≡ r′
 total-told = told totalRead (readBy (λ x. x .found .payload)) total-back
@@ -79,22 +80,22 @@ peeked-told = told peeked peekedOf peeked-back
 
 abbrev spannedOf : Result Span → Spanned
 spannedOf (ok p) = S.Contents (p .start) (p .len) (record { at = p .ends })
-spannedOf (refused which place stream) = S.Refused which place
+spannedOf (refused which place stream) = S.Refused (refusal which place stream)
 
 spanned-back : (r : Spanned) → spannedOf (spanned r) ≡ r
 spanned-back (S.Contents start len next) = refl
-spanned-back (S.Refused which place) = refl
+spanned-back (S.Refused r) = refl
 
 spanned-told : {b : Result Span} (r r′ : Spanned) → spanned r ≡ b → spanned r′ ≡ b → r ≡ r′
 spanned-told = told spanned spannedOf spanned-back
 
 abbrev skippedOf : Result ℕ → Skipped
 skippedOf (ok e) = P.Past (record { at = e })
-skippedOf (refused which place stream) = P.Refused which place
+skippedOf (refused which place stream) = P.Refused (refusal which place stream)
 
 skipped-back : (r : Skipped) → skippedOf (skippedTo r) ≡ r
 skipped-back (P.Past next) = refl
-skipped-back (P.Refused which place) = refl
+skipped-back (P.Refused r) = refl
 
 skipped-told : {b : Result ℕ} (r r′ : Skipped) → skippedTo r ≡ b → skippedTo r′ ≡ b → r ≡ r′
 skipped-told = told skippedTo skippedOf skipped-back

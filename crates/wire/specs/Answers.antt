@@ -1,7 +1,8 @@
 -- What each answer of the code means, in the words of `layouts`.
 use Prim.Native.Nat.{ℕ, _+_}
 use mathlib.Core.List.{List}
-use Rattle.layouts.specs.Primitive.{numberAt, Result, ok, refused, onward}
+use Rattle.layouts.specs.Primitive.{numberAt, Result, ok, onward}
+use Rattle.layouts.specs.Refusal.{refusedBy}
 use Rattle.layouts.specs.Pieces.{Num, value, short}
 use Rattle.layouts.specs.Record.{blank, withNumber, withCount, withEntries, withPayload}
 use Rattle.layouts.specs.Judge.{Ended}
@@ -19,17 +20,17 @@ use Rattle.wire.specs.declared.Skipped.the-variants as P
 -- a number, the count of a skipped set, the total of skipped frames: number 0
 abbrev pub numberRead : Read → Result Ended
 numberRead (R.Value v next) = ok (record { found = withNumber blank 0 v; ends = next .at })
-numberRead (R.Refused which place) = refused which place 0
+numberRead (R.Refused r) = refusedBy r
 
 -- the count of a set: count 0, and as many entries
 abbrev pub countRead : Read → Result Ended
 countRead (R.Value v next) = ok (record { found = withEntries (withCount blank 0 v) v; ends = next .at })
-countRead (R.Refused which place) = refused which place 0
+countRead (R.Refused r) = refusedBy r
 
 -- the total of frames: so many bytes of payload
 abbrev pub totalRead : Read → Result Ended
 totalRead (R.Value v next) = ok (record { found = withPayload blank v; ends = next .at })
-totalRead (R.Refused which place) = refused which place 0
+totalRead (R.Refused r) = refusedBy r
 
 abbrev pub peeked : Peeked → Num
 peeked (K.Some v) = value v
@@ -37,11 +38,11 @@ peeked K.None = short
 
 abbrev pub skippedTo : Skipped → Result ℕ
 skippedTo (P.Past next) = ok (next .at)
-skippedTo (P.Refused which place) = refused which place 0
+skippedTo (P.Refused r) = refusedBy r
 
 abbrev pub spanned : Spanned → Result Span
 spanned (S.Contents start len next) = ok (span start len (next .at))
-spanned (S.Refused which place) = refused which place 0
+spanned (S.Refused r) = refusedBy r
 
 -- read_bytes and read_string answer the one entry (`stringEntry` of `layouts`) with the end
 abbrev pub readBytes : List ℕ → (at : ℕ) → Result Span

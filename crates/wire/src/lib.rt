@@ -10,6 +10,7 @@ ghost use Rattle.layouts.specs.Calls.{field, readNumber, readU32, peekNumber, s
 ghost use Rattle.wire.specs.Answers.{numberRead, countRead, totalRead, peeked, spanned, skippedTo, readBytes, readText};
 ghost use Rattle.pieces.specs.Pieces.{stringAt};
 ghost use Rattle.runs.specs.Runs.{totalOf};
+use layouts::Refusal;
 use number::Number;
 use pieces::Judged;
 use runs::Passed;
@@ -22,7 +23,7 @@ pub struct Cursor {
 // A number: the one that stands there, a count or a total.
 pub enum Read {
     Value { value: u64, next: Cursor },
-    Refused { which: u64, place: usize },
+    Refused(Refusal),
 }
 
 pub enum Peeked {
@@ -37,15 +38,12 @@ pub enum Spanned {
         len: usize,
         next: Cursor,
     },
-    Refused {
-        which: u64,
-        place: usize,
-    },
+    Refused(Refusal),
 }
 
 pub enum Skipped {
     Past(Cursor),
-    Refused { which: u64, place: usize },
+    Refused(Refusal),
 }
 
 // A string, with the cursor after it.
@@ -58,7 +56,7 @@ fn string_at(s: &[u8], at: usize, decoded: bool) -> Spanned
             len,
             next: Cursor { at: next },
         },
-        Judged::Refused { which, place } => Spanned::Refused { which, place },
+        Judged::Refused(r) => Spanned::Refused(r),
     }
 }
 
@@ -71,7 +69,7 @@ fn after_frames(t: Total) -> Read
             value: total,
             next: Cursor { at: next },
         },
-        Total::Refused { which, place } => Read::Refused { which, place },
+        Total::Refused(r) => Read::Refused(r),
     }
 }
 
@@ -85,10 +83,7 @@ impl Cursor {
                 value: n,
                 next: Cursor { at: at + 8 },
             },
-            Number::Short => Read::Refused {
-                which: layouts::CUT_SHORT,
-                place: at,
-            },
+            Number::Short => Read::Refused(layouts::refuse(layouts::CUT_SHORT, at)),
         }
     }
 
@@ -102,10 +97,7 @@ impl Cursor {
                 value: small,
                 next: Cursor { at: at + 4 },
             },
-            Number::Short => Read::Refused {
-                which: layouts::CUT_SHORT,
-                place: at,
-            },
+            Number::Short => Read::Refused(layouts::refuse(layouts::CUT_SHORT, at)),
         }
     }
 
@@ -143,7 +135,7 @@ impl Cursor {
                 len: _,
                 next,
             } => Skipped::Past(next),
-            Spanned::Refused { which, place } => Skipped::Refused { which, place },
+            Spanned::Refused(r) => Skipped::Refused(r),
         }
     }
 
@@ -154,14 +146,11 @@ impl Cursor {
     {
         let at = self.at;
         match pieces::number_at(s, at) {
-            Number::Short => Read::Refused {
-                which: layouts::CUT_SHORT,
-                place: at,
-            },
+            Number::Short => Read::Refused(layouts::refuse(layouts::CUT_SHORT, at)),
             Number::Value(kept) => {
                 let first = at + 8;
                 match runs::read_strings(s, first, kept, entries) {
-                    Passed::Refused { which, place } => Read::Refused { which, place },
+                    Passed::Refused(r) => Read::Refused(r),
                     Passed::Past(next) => Read::Value {
                         value: kept,
                         next: Cursor { at: next },
@@ -177,14 +166,11 @@ impl Cursor {
     {
         let at = self.at;
         match pieces::number_at(s, at) {
-            Number::Short => Read::Refused {
-                which: layouts::CUT_SHORT,
-                place: at,
-            },
+            Number::Short => Read::Refused(layouts::refuse(layouts::CUT_SHORT, at)),
             Number::Value(count) => {
                 let first = at + 8;
                 match strings::pass(s, first, 0, 0, count) {
-                    strings::Passed::Refused { which, place } => Read::Refused { which, place },
+                    strings::Passed::Refused(r) => Read::Refused(r),
                     strings::Passed::Past(next) => Read::Value {
                         value: count,
                         next: Cursor { at: next },

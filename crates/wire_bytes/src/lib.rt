@@ -9,7 +9,6 @@ ghost use Rattle.layouts.specs.Calls.{field, readStringSet};
 ghost use Rattle.output.specs.Numbers.{bytesOf};
 ghost use Rattle.judge.specs.Judged.{answerAs};
 ghost use Rattle.answers.specs.Answers.{ended};
-use items::Layout;
 use judge::Answer;
 use judge::Outcome;
 
@@ -19,11 +18,7 @@ pub fn read_string_set(s: &[u8], at: usize, entries: &mut [u8]) -> Answer
     ensures room { λ r. ⌜ now (entries .exit) ≡ lentAfter (readStringSet (now (s .entry)) at (length (now (entries .entry)) / 16)) (bytesOf (entriesOf (run (field (set kept (asCount 0))) (now (s .entry)) at))) (now (entries .entry)) ⌝ }
 {
     let slots = entries.len() / 16;
-    let layout = Layout {
-        major: 0,
-        minor: 0,
-        first: table::STRING_SET,
-    };
+    let layout = items::layout(0, 0, table::STRING_SET);
     let a = judge::judge_record(s, at, layout, slots, 0, judge::empty());
     let o = a.outcome;
     let Outcome::Fine = o else {

@@ -6,7 +6,9 @@ use mathlib.Core.Bool.{Bool, true, false}
 use Rattle.text.specs.Rfc3629.{Judged}
 use Rattle.text.specs.Prefix.{isText}
 use Rattle.text.proofs.Meaning.{judged-is}
-use Rattle.layouts.specs.Primitive.{Result, littleEnd, ok, refused}
+use Rattle.layouts.specs.Primitive.{Result, littleEnd, ok}
+use Rattle.layouts.specs.declared.Refusal.{Refusal}
+use Rattle.layouts.specs.Refusal.{plain, refusedBy}
 use Rattle.layouts.specs.Judge.{lentAfter}
 use Rattle.layouts.specs.Writers.{writing, stringBytes, writeString}
 use Rattle.layouts.proofs.Little.{length-little}
@@ -19,9 +21,9 @@ module _ (k x : ℕ) (lent lent' : List ℕ) (b : Bool) (e : b ≡ wrote k lent)
   unfolding writing
   little-done t = simp (f, length-little k x, sym e ∙ t) (refl, refl)
 
-  pub little-full : b ≡ false → (refused 10 0 0 ≡ writing (littleEnd k x) lent) × (lent' ≡ afterWriting (littleEnd k x) lent)
+  pub little-full : b ≡ false → (r : Refusal) → r ≡ plain 10 0 → (refusedBy r ≡ writing (littleEnd k x) lent) × (lent' ≡ afterWriting (littleEnd k x) lent)
   unfolding writing
-  little-full t = simp (f, length-little k x, sym e ∙ t) (refl, refl)
+  little-full t r p = simp (p, f, length-little k x, sym e ∙ t) (refl, refl)
 
 -- a string: its text first
 module _ (b : Bool) (c : List ℕ) (j : Judged b c) (lent : List ℕ) where
@@ -31,6 +33,6 @@ module _ (b : Bool) (c : List ℕ) (j : Judged b c) (lent : List ℕ) where
   unfolding writeString
   string-text lent' r e p = let t : isText c ≡ true = sym (judged-is b c j) ∙ e in simp t p
 
-  pub string-bad : b ≡ false → (refused 3 0 0 ≡ writeString c lent) × (lent ≡ lentAfter (writeString c lent) (stringBytes c) lent)
+  pub string-bad : b ≡ false → (r : Refusal) → r ≡ plain 3 0 → (refusedBy r ≡ writeString c lent) × (lent ≡ lentAfter (writeString c lent) (stringBytes c) lent)
   unfolding writeString
-  string-bad e = let t : isText c ≡ false = sym (judged-is b c j) ∙ e in simp t (refl, refl)
+  string-bad e r p = let t : isText c ≡ false = sym (judged-is b c j) ∙ e in simp (t, p) (refl, refl)

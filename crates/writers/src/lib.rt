@@ -22,10 +22,7 @@ pub fn write_u64(out: &mut [u8], x: u64) -> Written
     if number_out::write(out, x) {
         return Written::Length(8);
     }
-    Written::Refused {
-        which: layouts::OUTPUT_FULL,
-        place: 0,
-    }
+    Written::Refused(layouts::refuse(layouts::OUTPUT_FULL, 0))
 }
 
 pub fn write_u32(out: &mut [u8], x: u32) -> Written
@@ -35,10 +32,7 @@ pub fn write_u32(out: &mut [u8], x: u32) -> Written
     if number_out::write_four(out, x as u64) {
         return Written::Length(4);
     }
-    Written::Refused {
-        which: layouts::OUTPUT_FULL,
-        place: 0,
-    }
+    Written::Refused(layouts::refuse(layouts::OUTPUT_FULL, 0))
 }
 
 pub fn write_bytes(out: &mut [u8], c: &[u8]) -> Written
@@ -47,10 +41,7 @@ pub fn write_bytes(out: &mut [u8], c: &[u8]) -> Written
 {
     let n = output::string_length(c);
     if out.len() < n {
-        return Written::Refused {
-            which: layouts::OUTPUT_FULL,
-            place: 0,
-        };
+        return Written::Refused(layouts::refuse(layouts::OUTPUT_FULL, 0));
     }
     output::put_string(out, 0, c);
     Written::Length(n)
@@ -63,10 +54,7 @@ pub fn write_string(out: &mut [u8], c: &[u8]) -> Written
     if text::is_text(c) {
         return write_bytes(out, c);
     }
-    Written::Refused {
-        which: layouts::BAD_TEXT,
-        place: 0,
-    }
+    Written::Refused(layouts::refuse(layouts::BAD_TEXT, 0))
 }
 
 // Eight bytes before each chunk, and the zero at the end.
@@ -115,10 +103,7 @@ pub fn write_framed(out: &mut [u8], c: &[u8]) -> Written
 {
     let n = framed_length(c.len());
     if out.len() < n {
-        return Written::Refused {
-            which: layouts::OUTPUT_FULL,
-            place: 0,
-        };
+        return Written::Refused(layouts::refuse(layouts::OUTPUT_FULL, 0));
     }
     put_framed(out, c);
     Written::Length(n)

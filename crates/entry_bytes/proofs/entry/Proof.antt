@@ -39,7 +39,7 @@ returns : tie.Need-returns
 returns c = entry-part (c .before .before .before .before .before .before .before .before .args .bytes .now) (c .before .before .before .before .before .before .before .before .args .entries .now) _ (slot (c .before .before .before)) _ _ (c .before .before .word .ensures) (c .before .word2 .ensures) (whole (c .before .before .before))
 
 returns-2 : tie.Need-returns-2
-returns-2 c = sym (empty _ _ _ _ _ (ap meaning (sym (c .before .enum-told2 .given .1)) ∙ c .before .before .before .entry-fault .ensures))
+returns-2 c = sym (empty _ _ _ _ (ap meaning (sym (c .before .enum-told2 .given .1)) ∙ c .before .before .before .entry-fault .ensures))
 
 add-e : tie.Need-add-e
 add-e c = omega (arith, within (c))

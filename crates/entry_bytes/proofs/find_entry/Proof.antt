@@ -36,7 +36,7 @@ returns : tie.Need-returns
 returns c = entry-answer (c .before .before .before .before .before .before .before .before .args .bytes .now) (c .before .before .before .before .before .before .before .before .args .entries .now) _ (slot (c .before .before .before)) _ _ (c .before .before .word .ensures) (c .before .word2 .ensures) (whole (c .before .before .before)) _ (c .entry .ensures)
 
 returns-2 : tie.Need-returns-2
-returns-2 c = entry-refused (c .before .before .before .before .before .before .before .args .bytes .now) (c .before .before .before .before .before .before .before .args .entries .now) _ _ _ (ap meaning (sym (c .before .before .which .given .1)) ∙ c .before .before .before .before .entry-fault .ensures) _ (c .refused-answer .ensures)
+returns-2 c = entry-refused (c .before .before .before .before .before .before .before .args .bytes .now) (c .before .before .before .before .before .before .before .args .entries .now) _ _ (ap meaning (sym (c .before .before .r .given .1)) ∙ c .before .before .before .before .entry-fault .ensures) _ (c .refused-answer .ensures)
 
 pub find-entry-spec : {M : Type 1} → statement M
 find-entry-spec =

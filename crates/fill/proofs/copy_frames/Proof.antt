@@ -25,7 +25,7 @@ same-length-2 : tie.Need-same-length-2 Inv-loop μ-loop
 same-length-2 c = c .before .before .before .before .loop .inv .wide
 
 returns : tie.Need-returns Inv-loop μ-loop
-returns c = (copying-wrong (now (c .before .before .before .before .before .before .args .s)) _ _ _ _ _ _ (c .before .before .before .loop .inv) _ (c .before .before .chunk-at .ensures) _ _ (c .enum-told .given .1), tt)
+returns c = (copying-wrong (now (c .before .before .before .before .before .before .args .s)) _ _ _ _ _ _ (c .before .before .before .loop .inv) _ (c .before .before .chunk-at .ensures) _ (c .enum-told .given .1), tt)
 
 returns-2 : tie.Need-returns-2 Inv-loop μ-loop
 returns-2 c = (copying-last (now (c .before .before .before .before .before .before .before .args .s)) _ _ _ _ _ _ (c .before .before .before .before .loop .inv) _ (c .before .before .before .chunk-at .ensures) _ (c .before .m .given .1), copying-past (now (c .before .before .before .before .before .before .before .args .s)) _ _ _ _ _ _ (c .before .before .before .before .loop .inv) _ (c .before .before .before .chunk-at .ensures) _ (c .before .m .given .1))

@@ -40,7 +40,7 @@ returns : tie.Need-returns Inv-loop μ-loop
 returns c = (rowing-end (now (c .before .before .before .before .before .before .before .args .s)) _ _ _ _ _ _ _ _ _ _ _ _ _ _ _ (c .before .before .before .loop .inv) _ (c .before .before .after-next .ensures) (c .enum-told .given .1), c .before .before .before .loop .inv .on)
 
 returns-2 : tie.Need-returns-2 Inv-loop μ-loop
-returns-2 c = (rowing-bad (now (c .before .before .before .before .before .before .before .before .before .before .before .args .s)) _ _ _ _ _ _ _ _ _ _ _ _ _ _ _ (c .before .before .before .before .before .before .before .loop .inv) _ (c .before .before .before .before .before .before .after-next .ensures) _ _ (c .before .before .before .before .m .given .1) _ (c .before .before .text-at .ensures) _ _ (c .enum-told2 .given .1), tt)
+returns-2 c = (rowing-bad (now (c .before .before .before .before .before .before .before .before .before .before .before .args .s)) _ _ _ _ _ _ _ _ _ _ _ _ _ _ _ (c .before .before .before .before .before .before .before .loop .inv) _ (c .before .before .before .before .before .before .after-next .ensures) _ _ (c .before .before .before .before .m .given .1) _ (c .before .before .text-at .ensures) _ (c .enum-told2 .given .1), tt)
 
 returns-3 : tie.Need-returns-3 Inv-loop μ-loop
 returns-3 c = (rowing-half (now (c .before .before .before .before .before .before .before .before .before .before .before .args .s)) _ _ _ _ _ _ _ _ _ _ _ _ _ _ _ (c .before .before .before .before .before .before .before .loop .inv) _ (c .before .before .before .before .before .before .after-next .ensures) _ _ (c .before .before .before .before .m .given .1) _ (c .before .before .text-at .ensures) _ _ (c .enum-told3 .given .1), tt)

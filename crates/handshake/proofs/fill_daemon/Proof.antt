@@ -2,10 +2,10 @@
 use borrow.Author.Needs.{needs}
 use Rattle.handshake.proofs.fill_daemon.Statement.{statement}
 use Rattle.handshake.proofs.fill_daemon.Tie as tie
-use Rattle.fill.proofs.Room.{put-join}
-
-returns : tie.Need-returns
-returns c = put-join _ _ _ _ _ _ _ _ (c .before .before .before .before .before .before .fill-entries .ensures) (c .before .before .fill-entries2 .ensures)
+use Prim.Native.Nat.{ℕ}
+use mathlib.Core.Path.{refl}
+use mathlib.Core.List.{List}
+use Rattle.turns.proofs.Filled.{two-turns}
 
 pub fill-daemon-spec : {M : Type 1} → statement M
 fill-daemon-spec =
@@ -13,5 +13,7 @@ fill-daemon-spec =
     (tie.spec
     (λ c κs. search needs)
     (λ c κs. search needs)
+    (λ c κs. search needs)
+    (λ c κs. search needs)
     (λ c. search needs)
-    returns)
+    (λ c. search (two-turns (λ (xs : List ℕ). xs) (λ xs ys. refl))))

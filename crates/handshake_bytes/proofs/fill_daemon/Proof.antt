@@ -2,11 +2,9 @@
 use borrow.Author.Needs.{needs}
 use Rattle.handshake_bytes.proofs.fill_daemon.Statement.{statement}
 use Rattle.handshake_bytes.proofs.fill_daemon.Tie as tie
+use Rattle.output.specs.Numbers.{bytesOf}
 use Rattle.output.proofs.Numbers.{bytes-join}
-use Rattle.fill.proofs.Room.{put-join}
-
-returns : tie.Need-returns
-returns c = rw (bytes-join _ _) (put-join _ _ _ _ _ _ _ _ (c .before .before .before .before .before .before .fill-entry-bytes .ensures) (c .before .before .fill-entry-bytes2 .ensures))
+use Rattle.turns.proofs.Filled.{two-turns}
 
 pub fill-daemon-spec : {M : Type 1} → statement M
 fill-daemon-spec =
@@ -14,5 +12,7 @@ fill-daemon-spec =
     (tie.spec
     (λ c κs. search needs)
     (λ c κs. search needs)
+    (λ c κs. search needs)
+    (λ c κs. search needs)
     (λ c. search needs)
-    returns)
+    (λ c. search (two-turns bytesOf bytes-join)))

@@ -6,22 +6,23 @@ use native.Mathlib.Omega.{arith}
 use mathlib.Core.Path.{_≡_, sym, _∙_}
 use Prim.Native.Nat.{ℕ}
 use Rattle.table.specs.Table.{runOf}
-use Rattle.table.proofs.Tables.{run-in}
+use Rattle.table.proofs.Tables.{packed-run, run-in}
 use Rattle.items.proofs.Trees.{begin-inside, begin-before}
 
 add-t8 : tie.Need-add-t8
-add-t8 c = let h = run-in _ (runOf (c .before .packed .result)) (c .before .packed .ensures) (λ z. let w : _≡_ {A = ℕ} 1 0 = sym (c .if1 .taken) ∙ z in omega arith) in omega arith
+add-t8 c = let h = run-in _ (runOf (c .before .at .result)) (packed-run _ _ (c .before .at .ensures)) (λ z. let w : _≡_ {A = ℕ} 1 0 = sym (c .if1 .taken) ∙ z in omega arith) in omega arith
 
 returns : tie.Need-returns
-returns c = begin-inside (c .before .before .args .layout) (runOf (c .before .packed .result)) (c .before .packed .ensures) (c .if1 .taken)
+returns c = begin-inside _ _ (c .before .before .first .ensures) (runOf (c .before .at .result)) (packed-run _ _ (c .before .at .ensures)) (c .if1 .taken)
 
 returns-2 : tie.Need-returns-2
-returns-2 c = begin-before (c .before .before .args .layout) (runOf (c .before .packed .result)) (c .before .packed .ensures) (c .if1 .left)
+returns-2 c = begin-before _ _ (c .before .before .first .ensures) (runOf (c .before .at .result)) (packed-run _ _ (c .before .at .ensures)) (c .if1 .left)
 
 pub begin-spec : {M : Type 1} → statement M
 begin-spec =
     tie.close
     (tie.spec
+    (λ c κs. search needs)
     (λ c κs. search needs)
     (λ c. search needs)
     add-t8

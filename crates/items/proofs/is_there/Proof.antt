@@ -10,5 +10,6 @@ is-there-spec =
     (tie.spec
     (λ c. simp (eq-eqb _ _ (c .if1 .taken)))
     (λ c κs. search needs)
-    (λ c. simp (ne-eqb _ _ (c .before .before .if1 .left), eq-eqb _ _ (c .if2 .taken), c .before .at-least .ensures))
-    (λ c. simp (ne-eqb _ _ (c .before .before .if1 .left), ne-eqb _ _ (c .if2 .left), c .before .at-least .ensures)))
+    (λ c κs. search needs)
+    (λ c. simp (ne-eqb _ _ (c .before .before .before .if1 .left), eq-eqb _ _ (c .if2 .taken), c .before .at-least .ensures, c .before .before .spoken .ensures))
+    (λ c. simp (ne-eqb _ _ (c .before .before .before .if1 .left), ne-eqb _ _ (c .if2 .left), c .before .at-least .ensures, c .before .before .spoken .ensures)))

@@ -4,7 +4,7 @@ use Rattle.items.proofs.next.Statement.{statement}
 use Rattle.items.proofs.next.Tie as tie
 use native.Mathlib.Omega.{arith}
 use Rattle.table.specs.Table.{fieldOf}
-use Rattle.table.proofs.Tables.{field-in}
+use Rattle.table.proofs.Tables.{packed-field, field-in}
 use Rattle.items.proofs.Trees.{field-ends, field-absent, field-here}
 
 pub next-spec : {M : Type 1} → statement M
@@ -14,12 +14,12 @@ next-spec =
     (λ c κs. search needs)
     (λ c. search needs)
     (λ c κs. search needs)
-    (λ c. field-ends _ _ _ _ _ (fieldOf (c .before .before .packed .result)) (c .before .before .packed .ensures) _ (c .before .if1 .taken) (c .after-fields .ensures))
-    (λ c. let h = field-in _ (fieldOf (c .before .packed .result)) (c .before .packed .ensures) (c .if1 .left) in omega arith)
+    (λ c. field-ends _ _ _ _ _ (fieldOf (c .before .before .at .result)) (packed-field _ _ (c .before .before .at .ensures)) _ (c .before .if1 .taken) (c .after-fields .ensures))
+    (λ c. let h = field-in _ (fieldOf (c .before .at .result)) (packed-field _ _ (c .before .at .ensures)) (c .if1 .left) in omega arith)
     (λ c. search needs)
     (λ c. search needs)
     (λ c κs. search needs)
-    (λ c. field-absent _ _ _ _ _ (fieldOf (c .before .before .before .packed .result)) (c .before .before .before .packed .ensures) (c .before .before .if1 .left) _ (c .before .is-there .ensures) (c .if2 .taken))
+    (λ c. field-absent _ _ _ _ _ (fieldOf (c .before .before .before .at .result)) (packed-field _ _ (c .before .before .before .at .ensures)) (c .before .before .if1 .left) _ (c .before .is-there .ensures) (c .if2 .taken))
     (λ c. search needs)
     (λ c. search needs)
-    (λ c. field-here _ _ _ _ _ (fieldOf (c .before .before .before .packed .result)) (c .before .before .before .packed .ensures) (c .before .before .if1 .left) _ (c .before .is-there .ensures) (c .if2 .left)))
+    (λ c. field-here _ _ _ _ _ (fieldOf (c .before .before .before .at .result)) (packed-field _ _ (c .before .before .before .at .ensures)) (c .before .before .if1 .left) _ (c .before .is-there .ensures) (c .if2 .left)))

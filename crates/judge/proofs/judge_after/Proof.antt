@@ -6,40 +6,19 @@ use denote.Ref.{now}
 use native.Mathlib.Omega.{arith}
 use Rattle.judge.proofs.Feeding.{took-from, set-after, pairs-after, true-after, type-after, typed-after, false-after, nothing-after}
 
-returns : tie.Need-returns
-returns c = (set-after (now (c .before .before .before .args .s)) (c .before .before .before .args .slots) (c .before .before .before .args .at) _ (c .before .before .before .args .role) (c .before .before .before .args .x) _ (c .judge-row .result) (c .before .if1 .taken) (c .judge-row .ensures .0), c .judge-row .ensures .1)
-
-returns-2 : tie.Need-returns-2
-returns-2 c = (pairs-after (now (c .before .before .before .before .args .s)) (c .before .before .before .before .args .slots) (c .before .before .before .before .args .at) _ (c .before .before .before .before .args .role) (c .before .before .before .before .args .x) _ (c .judge-row2 .result) (c .before .if2 .taken) (c .judge-row2 .ensures .0), c .judge-row2 .ensures .1)
-
-returns-3 : tie.Need-returns-3
-returns-3 c = (false-after (now (c .before .before .before .before .before .args .s)) (c .before .before .before .before .before .args .slots) (c .before .before .before .before .before .args .at) _ (c .before .before .before .before .before .args .role) (c .before .before .before .before .before .args .x) _ (c .before .if3 .taken) (c .if4 .taken), omega arith)
-
-returns-4 : tie.Need-returns-4
-returns-4 c = (true-after (now (c .before .before .before .before .before .before .args .s)) (c .before .before .before .before .before .before .args .slots) (c .before .before .before .before .before .before .args .at) _ (c .before .before .before .before .before .before .args .role) (c .before .before .before .before .before .before .args .x) _ (c .drop-number .result) (c .before .before .if3 .taken) (c .before .if4 .left) (c .drop-number .ensures .0 _), took-from (now (c .before .before .before .before .before .before .args .s)) (c .before .before .before .before .before .before .args .at) (c .drop-number .result) (c .drop-number .ensures .1))
-
-returns-5 : tie.Need-returns-5
-returns-5 c = (type-after (now (c .before .before .before .before .before .before .before .args .s)) (c .before .before .before .before .before .before .before .args .slots) (c .before .before .before .before .before .before .before .args .at) _ (c .before .before .before .before .before .before .before .args .role) (c .before .before .before .before .before .before .before .args .x) _ (c .drop-number2 .result) (c .before .before .if5 .taken) (c .before .if6 .taken) (c .drop-number2 .ensures .0 _), took-from (now (c .before .before .before .before .before .before .before .args .s)) (c .before .before .before .before .before .before .before .args .at) (c .drop-number2 .result) (c .drop-number2 .ensures .1))
-
-returns-6 : tie.Need-returns-6
-returns-6 c = (typed-after (now (c .before .before .before .before .before .before .before .args .s)) (c .before .before .before .before .before .before .before .args .slots) (c .before .before .before .before .before .before .before .args .at) _ (c .before .before .before .before .before .before .before .args .role) (c .before .before .before .before .before .before .before .args .x) _ (c .judge-text .result) (c .before .before .if5 .taken) (c .before .if6 .left) (c .judge-text .ensures .0), took-from (now (c .before .before .before .before .before .before .before .args .s)) (c .before .before .before .before .before .before .before .args .at) (c .judge-text .result) (c .judge-text .ensures .1))
-
-returns-7 : tie.Need-returns-7
-returns-7 c = (nothing-after (now (c .before .before .before .before .before .args .s)) (c .before .before .before .before .before .args .slots) (c .before .before .before .before .before .args .at) _ (c .before .before .before .before .before .args .role) (c .before .before .before .before .before .args .x) _ (c .before .before .before .if1 .left) (c .before .before .if2 .left) (c .before .if3 .left) (c .if5 .left), omega arith)
-
 pub judge-after-spec : {M : Type 1} → statement M
 judge-after-spec =
     tie.close
     (tie.spec
     (λ c κs. search needs)
-    returns
+    (λ c. (search set-after, c .judge-row .ensures .1))
     (λ c κs. search needs)
-    returns-2
-    returns-3
+    (λ c. (search pairs-after, c .judge-row2 .ensures .1))
+    (λ c. (search false-after, omega arith))
     (λ c κs. search needs)
-    returns-4
+    (λ c. (true-after _ _ _ _ _ _ _ _ _ _ (c .before .before .if3 .taken) (c .before .if4 .left) (c .drop-number .ensures .0 _ _), took-from (now (c .before .before .before .before .before .before .args .s)) (c .before .before .before .before .before .before .args .at) (c .drop-number .result) (c .drop-number .ensures .1)))
     (λ c κs. search needs)
-    returns-5
+    (λ c. (type-after _ _ _ _ _ _ _ _ _ _ (c .before .before .if5 .taken) (c .before .if6 .taken) (c .drop-number2 .ensures .0 _ _), took-from (now (c .before .before .before .before .before .before .before .args .s)) (c .before .before .before .before .before .before .before .args .at) (c .drop-number2 .result) (c .drop-number2 .ensures .1)))
     (λ c κs. search needs)
-    returns-6
-    returns-7)
+    (λ c. (search typed-after, took-from (now (c .before .before .before .before .before .before .before .before .args .s)) (c .before .before .before .before .before .before .before .before .args .at) (c .judge-text .result) (c .judge-text .ensures .1)))
+    (λ c. (search nothing-after, omega arith)))

@@ -5,7 +5,7 @@ use Rattle.judge.proofs.judge_record.Tie as tie
 use mathlib.Core.Path.{_∙_}
 
 returns : tie.Need-returns
-returns c = c .answer-of .ensures ∙ c .before .judge .ensures
+returns c = c .answer-of .ensures ∙ c .before .judge .ensures .0
 
 pub judge-record-spec : {M : Type 1} → statement M
 judge-record-spec =

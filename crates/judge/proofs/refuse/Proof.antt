@@ -5,7 +5,7 @@ use Rattle.judge.proofs.refuse.Tie as tie
 use mathlib.Core.Path.{refl}
 
 returns : tie.Need-returns
-returns c = refl
+returns c = (refl, refl)
 
 pub refuse-spec : {M : Type 1} → statement M
 refuse-spec =

@@ -11,4 +11,4 @@ refused-answer-spec =
     tie.close
     (tie.spec
     (λ c κs. search needs)
-    (λ c. ap (λ (x : Record). record { outcome = Refused (c .before .args .which) (c .before .args .place) 0; kind = 0; ends = 0; ends2 = 0; found = x }) (c .empty .ensures)))
+    (λ c. ap (λ (x : Record). record { outcome = Refused (c .before .args .refusal); kind = 0; ends = 0; ends2 = 0; found = x }) (c .empty .ensures)))

@@ -1,20 +1,12 @@
--- `kinds::at_least` meets its contract: by major, then minor.
+-- `kinds::at_least` meets its contract: numbers of versions are in the order of versions.
+use borrow.Author.Needs.{needs}
+use native.Mathlib.Omega.{arith}
 use Rattle.kinds.proofs.at_least.Statement.{statement}
 use Rattle.kinds.proofs.at_least.Tie as tie
-use Rattle.layouts.specs.Primitive.{atLeast}
-use borrow.Author.Tests.{eq-eqb, ne-eqb}
+use Rattle.kinds.proofs.Versions.{in-order}
 
 returns : tie.Need-returns
-unfolding atLeast
-returns c = rw (eq-eqb (c .before .args .major) 1 (c .if1 .taken))
-
-returns-2 : tie.Need-returns-2
-unfolding atLeast
-returns-2 c = rw (ne-eqb (c .before .args .major) 1 (c .if1 .left))
+returns c = in-order (c .args .spoken) (c .args .bound) (omega arith)
 
 pub at-least-spec : {M : Type 1} → statement M
-at-least-spec =
-    tie.close
-    (tie.spec
-    returns
-    returns-2)
+at-least-spec = tie.close (tie.spec (λ c. search needs) returns)

@@ -19,7 +19,7 @@ loop-holds : tie.Need-loop-holds Inv-loop μ-loop
 loop-holds c = framing-start (now (c .before .args .s)) (c .before .args .from)
 
 returns : tie.Need-returns Inv-loop μ-loop
-returns c = (framing-wrong (now (c .before .before .before .before .before .before .args .s)) _ _ (c .before .before .before .before .loop .inv) _ (c .before .before .before .chunk-at .ensures) _ _ (c .before .m .given .1), tt)
+returns c = framing-wrong (now (c .before .before .before .before .before .before .args .s)) _ _ (c .before .before .before .before .loop .inv) _ (c .before .before .before .chunk-at .ensures) _ (c .before .m .given .1)
 
 returns-2 : tie.Need-returns-2 Inv-loop μ-loop
 returns-2 c = framing-last (now (c .before .before .before .before .before .before .args .s)) _ _ (c .before .before .before .before .loop .inv) _ (c .before .before .before .chunk-at .ensures) _ (c .before .m2 .given .1)

@@ -4,17 +4,18 @@ use Rattle.passing.proofs.pass_text.Statement.{statement}
 use Rattle.passing.proofs.pass_text.Tie as tie
 use denote.Ref.{now}
 use native.Mathlib.Omega.{arith}
+use Rattle.pieces.proofs.Found.{bad-plain, plain-is}
 use Rattle.pieces.proofs.Nodes.{half-within}
 use Rattle.passing.proofs.Passing.{bad-passes, half-passes, whole-passes, whole-took}
 
-add-t10 : tie.Need-add-t10
-add-t10 c = let h = half-within (now (c .before .before .before .before .before .args .s)) (c .before .before .before .before .before .args .at) _ (c .before .before .before .text-at .ensures) _ _ (c .before .m2 .given .1) in omega arith
+add-refuse : tie.Need-add-refuse
+add-refuse c = let h = half-within (now (c .before .before .before .before .before .args .s)) (c .before .before .before .before .before .args .at) _ (c .before .before .before .text-at .ensures) _ _ (c .before .m2 .given .1) in omega arith
 
 returns : tie.Need-returns
-returns c = (λ b r z. bad-passes (now (c .before .before .before .before .before .args .s)) (c .before .before .before .before .before .args .at) _ (c .before .before .before .text-at .ensures) _ _ (c .before .m .given .1) b r, tt)
+returns c = (λ b r z. bad-passes (now (c .before .before .before .before .before .args .s)) (c .before .before .before .before .before .args .at) _ (c .before .before .before .text-at .ensures) _ (c .before .m .given .1) b r, bad-plain (now (c .before .before .before .before .before .args .s)) (c .before .before .before .before .before .args .at) _ (c .before .before .before .text-at .ensures) _ (c .before .m .given .1))
 
 returns-2 : tie.Need-returns-2
-returns-2 c = (λ b r z. half-passes (now (c .before .before .before .before .before .args .s)) (c .before .before .before .before .before .args .at) _ (c .before .before .before .text-at .ensures) _ _ (c .before .m2 .given .1) b r, tt)
+returns-2 c = (λ b r z. half-passes (now (c .before .before .before .before .before .before .args .s)) (c .before .before .before .before .before .before .args .at) _ (c .before .before .before .before .text-at .ensures) _ _ (c .before .before .m2 .given .1) _ (c .refuse .ensures) b r, plain-is _ _ _ (c .refuse .ensures))
 
 returns-3 : tie.Need-returns-3
 returns-3 c = (λ b r z. whole-passes (now (c .before .before .before .before .before .args .s)) (c .before .before .before .before .before .args .at) _ (c .before .before .before .text-at .ensures) _ _ _ (c .before .m3 .given .1) b r z, whole-took (now (c .before .before .before .before .before .args .s)) (c .before .before .before .before .before .args .at) _ (c .before .before .before .text-at .ensures) _ _ _ (c .before .m3 .given .1))
@@ -26,7 +27,8 @@ pass-text-spec =
     (λ c κs. search needs)
     (λ c. search needs)
     (λ c. search needs)
-    add-t10
+    add-refuse
+    (λ c κs. search needs)
     (λ c. search needs)
     returns
     returns-2

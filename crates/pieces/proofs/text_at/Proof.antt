@@ -17,10 +17,13 @@ text-at-spec =
     (tie.spec
     (λ c κs. search needs)
     (λ c. search needs)
+    (λ c κs. search needs)
     (λ c. search needs)
+    (λ c κs. search needs)
     (λ c. search long-string)
     (λ c. omega (arith, fits (c .before)))
     (λ c. omega (arith, fits (c .before)))
+    (λ c κs. search needs)
     (λ c. search cut-contents)
     (λ c κs. search needs)
     (λ c. let g = rw (c .before .padding .ensures .0) at (c .if3 .taken) in search cut-padding)

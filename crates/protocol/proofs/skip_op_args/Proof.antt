@@ -1,31 +1,52 @@
--- `protocol::skip_op_args` meets its contract: by the shape of the operation; the one entry is lent two numbers 0.
+-- `protocol::skip_op_args` meets its contract: by the shape of the operation, and whether it needs a fold.
 use borrow.Author.Needs.{needs}
 use Rattle.protocol.proofs.skip_op_args.Statement.{statement}
 use Rattle.protocol.proofs.skip_op_args.Tie as tie
 use denote.Ref.{now}
+use Rattle.reading.proofs.Filled.{brief-is}
 use Rattle.layouts.specs.Primitive.{version}
-use Rattle.layouts.specs.Pieces.{run}
-use Rattle.layouts.specs.Judge.{entriesOf}
 use Rattle.layouts.specs.Operations.{Operation, find, skipKind}
-use Rattle.layouts.specs.Calls.{kindBy, readOf, skippedTree, skipOpArgs}
+use Rattle.layouts.specs.Calls.{kindBy, skipOpArgs}
 use Rattle.operations.proofs.Shapes.{skipped-say, shape-refuses}
-use Rattle.protocol.proofs.Rows.{unknown-is, arguments-unknown, row-answer, row-entries, arguments-is}
+use Rattle.protocol.proofs.Rows.{unknown-is, arguments-unknown, row-arguments, skipped-nothing}
 
 returns : tie.Need-returns
 unfolding skipOpArgs
-returns c = let v = version (c .before .before .before .before .args .major) (c .before .before .before .before .args .minor) in
-    let k = kindBy (find (c .before .before .before .before .args .op)) (λ (o : Operation). skipKind (o .skip)) in
-    arguments-unknown _ _ (unknown-is v k 1 0 (now (c .before .before .before .before .args .s)) _ (shape-refuses (c .before .before .before .before .args .op) _ _ _ (c .before .before .skipped .ensures) (c .enum-told .given .1) .skips v))
+returns c =
+    let a = c .before .before .before .before .before .before .args in
+    let v = version (a .major) (a .minor) in
+    let k = kindBy (find (a .op)) (λ (o : Operation). skipKind (o .skip)) in
+    arguments-unknown _ _ _ _ (unknown-is v k 1 0 (now (a .s)) _ (shape-refuses (a .op) _ _ _ (c .before .before .before .before .skipped .ensures) (c .before .before .enum-told .given .1) .skips v)) (c .before .refuse .ensures) (c .refused-arguments .ensures)
 
 returns-2 : tie.Need-returns-2
 unfolding skipOpArgs
-returns-2 c = let v = version (c .before .before .before .before .before .before .before .before .before .before .before .before .args .major) (c .before .before .before .before .before .before .before .before .before .before .before .before .args .minor) in
-    let k = kindBy (find (c .before .before .before .before .before .before .before .before .before .before .before .before .args .op)) (λ (o : Operation). skipKind (o .skip)) in
-    let y = skipped-say (c .before .before .before .before .before .before .before .before .before .before .before .before .args .op) _ _ _ (c .before .before .before .before .before .before .before .before .before .before .skipped .ensures) (c .before .before .before .before .before .before .before .before .f .given .1) in
-    let t = skippedTree (c .before .before .before .before .before .before .before .before .before .before .before .before .args .op) v in
-    arguments-is (readOf v k 1 0 (now (c .before .before .before .before .before .before .before .before .before .before .before .before .args .s)) t) (entriesOf (run t (now (c .before .before .before .before .before .before .before .before .before .before .before .before .args .s)) 0)) _ _
-    (row-answer v k 1 0 (now (c .before .before .before .before .before .before .before .before .before .before .before .before .args .s)) _ _ (y .tree v) _ (y .kind v) _ (c .before .before .before .before .read-words .ensures .0))
-    (row-entries v k 1 0 (now (c .before .before .before .before .before .before .before .before .before .before .before .before .args .s)) _ _ (y .tree v) _ (y .kind v) _ _ (c .before .before .before .before .read-words .ensures .1 .0))
+returns-2 c =
+    let a = c .before .before .before .before .before .before .before .before .before .before .before .args in
+    let g = c .before .before .before .before .before .layout in
+    let v = version (a .major) (a .minor) in
+    let k = kindBy (find (a .op)) (λ (o : Operation). skipKind (o .skip)) in
+    let y = skipped-say (a .op) _ _ _ (c .before .before .before .before .before .before .before .before .before .skipped .ensures) (c .before .before .before .before .before .before .before .f .given .1) in
+    row-arguments v k 1 0 (now (a .s)) _ _ _ (g .ensures .0) (g .ensures .1) (y .tree v) _ (y .kind v) _ (skipped-nothing (g .result) _ (now (a .s)) (brief-is (g .result) _ _ (c .before .before .before .before .in-brief .ensures .1) (c .before .before .enum-told2 .given .1)) _ (rw (← c .before .spoken .ensures) (c .kind-of .ensures)))
+
+returns-3 : tie.Need-returns-3
+unfolding skipOpArgs
+returns-3 c =
+    let a = c .before .before .before .before .before .before .before .before .before .before .args in
+    let g = c .before .before .before .before .layout in
+    let v = version (a .major) (a .minor) in
+    let k = kindBy (find (a .op)) (λ (o : Operation). skipKind (o .skip)) in
+    let y = skipped-say (a .op) _ _ _ (c .before .before .before .before .before .before .before .before .skipped .ensures) (c .before .before .before .before .before .before .f .given .1) in
+    row-arguments v k 1 0 (now (a .s)) _ _ _ (g .ensures .0) (g .ensures .1) (y .tree v) _ (y .kind v) _ (c .skip-layout .ensures)
+
+returns-4 : tie.Need-returns-4
+unfolding skipOpArgs
+returns-4 c =
+    let a = c .before .before .before .before .before .before .before .before .before .before .args in
+    let g = c .before .before .before .before .layout in
+    let v = version (a .major) (a .minor) in
+    let k = kindBy (find (a .op)) (λ (o : Operation). skipKind (o .skip)) in
+    let y = skipped-say (a .op) _ _ _ (c .before .before .before .before .before .before .before .before .skipped .ensures) (c .before .before .before .before .before .before .f .given .1) in
+    row-arguments v k 1 0 (now (a .s)) _ _ _ (g .ensures .0) (g .ensures .1) (y .tree v) _ (y .kind v) _ (c .skip-layout2 .ensures)
 
 pub skip-op-args-spec : {M : Type 1} → statement M
 skip-op-args-spec =
@@ -33,12 +54,19 @@ skip-op-args-spec =
     (tie.spec
     (λ c κs. search needs)
     (λ c. search needs)
+    (λ c κs. search needs)
+    (λ c κs. search needs)
     (λ c. search needs)
+    (λ c κs. search needs)
+    (λ c κs. search needs)
     (λ c. search needs)
+    (λ c κs. search needs)
+    (λ c κs. search needs)
     (λ c. search needs)
     (λ c κs. search needs)
     (λ c. search needs)
-    (λ c. search needs)
-    (λ c. search needs)
+    (λ c κs. search needs)
     returns
-    returns-2)
+    returns-2
+    returns-3
+    returns-4)

@@ -13,6 +13,6 @@ read-frames-spec =
     (λ c. search needs)
     (λ c. search needs)
     (λ c κs. search frames-fit)
-    (λ c. framed-refused (now (c .before .before .before .before .before .before .args .s)) (c .before .before .before .before .before .before .args .from) (now (c .before .before .before .before .before .before .args .out)) _ (c .before .before .before .frames-at .ensures) _ _ (c .before .which .given .1))
+    (λ c. framed-refused (now (c .before .before .before .before .before .before .args .s)) (c .before .before .before .before .before .before .args .from) (now (c .before .before .before .before .before .before .args .out)) _ (c .before .before .before .frames-at .ensures) _ (c .before .r .given .1))
     (λ c. search needs)
     (λ c. framed-read (now (c .before .before .before .before .before .before .before .before .before .before .args .s)) (c .before .before .before .before .before .before .before .before .before .before .args .from) (now (c .before .before .before .before .before .before .before .before .before .before .args .out)) _ (c .before .before .before .before .before .before .before .frames-at .ensures) _ _ (c .before .before .before .before .before .total .given .1) _ (c .before .before .join-frames .ensures)))

@@ -13,6 +13,6 @@ read-strings-spec =
     (λ c. search needs)
     (λ c. search needs)
     (λ c κs. search set-fits)
-    (λ c. set-refused (now (c .before .before .before .before .before .before .args .s)) (c .before .before .before .before .before .before .args .count) (c .before .before .before .before .before .before .args .from) (now (c .before .before .before .before .before .before .args .entries)) _ (c .before .before .before .strings-at .ensures) _ _ (c .before .which .given .1))
+    (λ c. set-refused (now (c .before .before .before .before .before .before .args .s)) (c .before .before .before .before .before .before .args .count) (c .before .before .before .before .before .before .args .from) (now (c .before .before .before .before .before .before .args .entries)) _ (c .before .before .before .strings-at .ensures) _ (c .before .r .given .1))
     (λ c. search needs)
     (λ c. set-read (now (c .before .before .before .before .before .before .before .before .before .before .args .s)) (c .before .before .before .before .before .before .before .before .before .before .args .count) (c .before .before .before .before .before .before .before .before .before .before .args .from) (now (c .before .before .before .before .before .before .before .before .before .before .args .entries)) _ (c .before .before .before .before .before .before .before .strings-at .ensures) _ (c .before .before .before .before .before .next .given .1) _ (c .before .before .fill-entries .ensures)))

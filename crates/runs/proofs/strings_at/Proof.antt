@@ -25,6 +25,7 @@ strings-at-spec =
     (λ c. search needs)
     (λ c. search strings-fault)
     (λ c. search needs)
+    (λ c κs. search needs)
     (λ c. search strings-full)
     (λ c. search needs)
     (λ c. search needs)

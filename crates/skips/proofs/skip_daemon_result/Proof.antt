@@ -4,7 +4,7 @@ use Rattle.skips.proofs.skip_daemon_result.Statement.{statement}
 use Rattle.skips.proofs.skip_daemon_result.Tie as tie
 use mathlib.Core.Path.{ap}
 use Rattle.layouts.specs.declared.Record.{Record}
-use Rattle.judge.specs.declared.Outcome.the-variants.{Fine, Refused}
+use Rattle.judge.specs.declared.Outcome.the-variants.{Fine}
 use Rattle.skips.proofs.Laws.{result-is}
 
 pub skip-daemon-result-spec : {M : Type 1} → statement M
@@ -17,4 +17,4 @@ skip-daemon-result-spec =
     (λ c. search needs)
     (λ c κs. search needs)
     (λ c. result-is _ _ _ (c .before .before .before .before .skip-daemon-result .ensures) (c .before .before .k .given .1) _ (ap (λ (x : Record). record { outcome = Fine; kind = 0; ends = c .before .before .k .given .0 .0; ends2 = 0; found = x }) (c .empty .ensures)))
-    (λ c. result-is _ _ _ (c .before .before .before .before .skip-daemon-result .ensures) (c .before .before .k2 .given .1) _ (ap (λ (x : Record). record { outcome = Refused (c .before .before .k2 .given .0 .0) (c .before .before .k2 .given .0 .1 .0) 0; kind = 0; ends = 0; ends2 = 0; found = x }) (c .empty2 .ensures))))
+    (λ c. result-is _ _ _ (c .before .before .before .before .skip-daemon-result .ensures) (c .before .before .k2 .given .1) _ (c .refused-answer .ensures)))

@@ -15,5 +15,5 @@ read-stderr-loop-spec =
     (λ c. search needs)
     (λ c κs. search needs)
     (λ c κs. search needs)
-    (λ c. loop-refused (now (c .before .before .before .before .before .before .args .s)) (c .before .before .before .before .stderr-loop .result) (c .before .before .before .before .stderr-loop .ensures) _ _ (c .before .before .l .given .1) _ (c .refused-answer .ensures))
+    (λ c. loop-refused (now (c .before .before .before .before .before .before .args .s)) (c .before .before .before .before .stderr-loop .result) (c .before .before .before .before .stderr-loop .ensures) _ (c .before .before .l .given .1) _ (c .refused-answer .ensures))
     (λ c. loop-stops (now (c .before .before .before .before .before .before .before .args .s)) (c .before .before .before .before .before .stderr-loop .result) (c .before .before .before .before .before .stderr-loop .ensures) _ _ _ (c .before .before .before .l2 .given .1) _ (c .before .stopped-record .ensures) _ (c .answer .ensures)))

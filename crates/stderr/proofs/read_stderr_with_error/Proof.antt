@@ -17,8 +17,8 @@ returns c = let z = c .before .before .before .before .if1 .taken ∙ c .before 
 
 returns-2 : tie.Need-returns-2
 returns-2 c = (
-  error-refused (now (c .before .before .before .before .before .before .before .args .s)) (c .before .before .before .before .stderr-loop .result) (c .before .before .before .before .stderr-loop .ensures) _ _ (c .before .before .l .given .1) (length (now (c .before .before .before .before .before .before .before .args .entries)) / 2) _ (c .refused-answer .ensures),
-  error-kept (now (c .before .before .before .before .before .before .before .args .s)) (c .before .before .before .before .stderr-loop .result) (c .before .before .before .before .stderr-loop .ensures) _ _ (c .before .before .l .given .1) (length (now (c .before .before .before .before .before .before .before .args .entries)) / 2) _ _,
+  error-refused (now (c .before .before .before .before .before .before .before .args .s)) (c .before .before .before .before .stderr-loop .result) (c .before .before .before .before .stderr-loop .ensures) _ (c .before .before .l .given .1) (length (now (c .before .before .before .before .before .before .before .args .entries)) / 2) _ (c .refused-answer .ensures),
+  error-kept (now (c .before .before .before .before .before .before .before .args .s)) (c .before .before .before .before .stderr-loop .result) (c .before .before .before .before .stderr-loop .ensures) _ (c .before .before .l .given .1) (length (now (c .before .before .before .before .before .before .before .args .entries)) / 2) _ _,
 )
 
 returns-3 : tie.Need-returns-3

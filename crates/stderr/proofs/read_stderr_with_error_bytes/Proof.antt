@@ -18,8 +18,8 @@ returns c = let z = sym (c .before .before .before .before .if1 .taken) ∙ c .b
 
 returns-2 : tie.Need-returns-2
 returns-2 c = (
-  error-refused (now (c .before .before .before .before .before .before .before .args .s)) (c .before .before .before .before .stderr-loop .result) (c .before .before .before .before .stderr-loop .ensures) _ _ (c .before .before .l .given .1) (length (now (c .before .before .before .before .before .before .before .args .entries)) / 16) _ (c .refused-answer .ensures),
-  error-kept (now (c .before .before .before .before .before .before .before .args .s)) (c .before .before .before .before .stderr-loop .result) (c .before .before .before .before .stderr-loop .ensures) _ _ (c .before .before .l .given .1) (length (now (c .before .before .before .before .before .before .before .args .entries)) / 16) _ _,
+  error-refused (now (c .before .before .before .before .before .before .before .args .s)) (c .before .before .before .before .stderr-loop .result) (c .before .before .before .before .stderr-loop .ensures) _ (c .before .before .l .given .1) (length (now (c .before .before .before .before .before .before .before .args .entries)) / 16) _ (c .refused-answer .ensures),
+  error-kept (now (c .before .before .before .before .before .before .before .args .s)) (c .before .before .before .before .stderr-loop .result) (c .before .before .before .before .stderr-loop .ensures) _ (c .before .before .l .given .1) (length (now (c .before .before .before .before .before .before .before .args .entries)) / 16) _ _,
 )
 
 returns-3 : tie.Need-returns-3

@@ -2,14 +2,14 @@
 use borrow.Author.Needs.{needs}
 use Rattle.strings.proofs.after_next.Statement.{statement}
 use Rattle.strings.proofs.after_next.Tie as tie
-use Rattle.strings.proofs.Rows.{row-pend, row-left, row-none}
+use borrow.Author.Tests.{lt-ltb, le-ltb}
 
 pub after-next-spec : {M : Type 1} → statement M
 after-next-spec =
     tie.close
     (tie.spec
     (λ c. search needs)
-    (λ c. λ m k. row-pend m (c .before .args .extra) k (c .before .args .pend) (c .before .args .left) (c .if1 .taken))
+    (λ c. simp (lt-ltb _ _ (c .if1 .taken)))
     (λ c. search needs)
-    (λ c. λ m k. row-left m (c .before .before .args .extra) k (c .before .before .args .pend) (c .before .before .args .left) (c .before .if1 .left) (c .if2 .taken))
-    (λ c. λ m k. row-none m (c .before .before .args .extra) k (c .before .before .args .pend) (c .before .before .args .left) (c .before .if1 .left) (c .if2 .left)))
+    (λ c. simp (le-ltb _ _ (c .before .if1 .left), lt-ltb _ _ (c .if2 .taken)))
+    (λ c. simp (le-ltb _ _ (c .before .if1 .left), le-ltb _ _ (c .if2 .left))))

@@ -11,8 +11,8 @@ use Rattle.output.proofs.Laws.{done, full, then}
 
 returns : tie.Need-returns
 returns c =
-    let a = c .before .before .before .before .args in
-    full (a .a .now ++ a .b .now) _ _ (sym (length-append (a .a .now) (a .b .now))) (c .if1 .taken)
+    let a = c .before .before .before .before .before .args in
+    full (a .a .now ++ a .b .now) _ _ (sym (length-append (a .a .now) (a .b .now))) (c .before .if1 .taken) _ (c .refuse .ensures)
 
 returns-2 : tie.Need-returns-2
 returns-2 c =
@@ -24,6 +24,7 @@ write-two-spec =
     tie.close
     (tie.spec
     (λ c. search needs)
+    (λ c κs. search needs)
     returns
     (λ c κs. search needs)
     (λ c κs. search needs)

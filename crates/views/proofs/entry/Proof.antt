@@ -14,7 +14,7 @@ returns : tie.Need-returns
 returns c = part _ _ _ (whole (c .before .before .before))
 
 returns-2 : tie.Need-returns-2
-returns-2 c = sym (empty _ _ _ _ _ (ap meaning (sym (c .before .enum-told2 .given .1)) ∙ c .before .before .before .entry-fault .ensures))
+returns-2 c = sym (empty _ _ _ _ (ap meaning (sym (c .before .enum-told2 .given .1)) ∙ c .before .before .before .entry-fault .ensures))
 
 pub entry-spec : {M : Type 1} → statement M
 entry-spec =

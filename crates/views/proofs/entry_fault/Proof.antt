@@ -1,3 +1,4 @@
+-- `views::entry_fault` meets its contract: by the slots and the bytes.
 use native.Mathlib.Omega.{arith}
 use mathlib.Core.Path.{sym, ap}
 use borrow.Author.Needs.{needs}
@@ -10,7 +11,8 @@ pub entry-fault-spec : {M : Type 1} → statement M
 entry-fault-spec =
     tie.close
     (tie.spec
-    (λ c. sym (ap faultOf (no-such _ _ _ (c .if1 .taken))))
+    (λ c κs. search needs)
+    (λ c. rw (c .refuse .ensures) (sym (ap faultOf (no-such _ _ _ (c .before .if1 .taken)))))
     (λ c. search needs)
     (λ c. search needs)
     (λ c. search needs)
@@ -18,6 +20,8 @@ entry-fault-spec =
     (λ c. search needs)
     (λ c. search needs)
     (λ c. search needs)
-    (λ c. sym (ap faultOf (bad _ _ _ (c .before .before .before .if1 .left) (omega arith))))
-    (λ c. sym (ap faultOf (bad _ _ _ (c .before .before .before .before .if1 .left) (omega arith))))
+    (λ c κs. search needs)
+    (λ c. rw (c .refuse2 .ensures) (sym (ap faultOf (bad _ _ _ (c .before .before .before .before .if1 .left) (omega arith)))))
+    (λ c κs. search needs)
+    (λ c. rw (c .refuse3 .ensures) (sym (ap faultOf (bad _ _ _ (c .before .before .before .before .before .if1 .left) (omega arith)))))
     (λ c. sym (ap faultOf (good _ _ _ (c .before .before .before .before .if1 .left) (omega arith)))))

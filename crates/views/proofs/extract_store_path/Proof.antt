@@ -1,3 +1,4 @@
+-- `views::extract_store_path` meets its contract: by its beginning, its length and its text.
 use native.Mathlib.Omega.{arith}
 use mathlib.Core.Path.{sym, _∙_}
 use borrow.Author.Needs.{needs}

@@ -1,3 +1,4 @@
+-- `views::feature` meets its contract: by the side.
 use borrow.Author.Needs.{needs}
 use Rattle.views.proofs.feature.Statement.{statement}
 use Rattle.views.proofs.feature.Tie as tie

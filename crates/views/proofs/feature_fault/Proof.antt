@@ -1,3 +1,4 @@
+-- `views::feature_fault` meets its contract: by the side.
 use borrow.Author.Needs.{needs}
 use Rattle.views.proofs.feature_fault.Statement.{statement}
 use Rattle.views.proofs.feature_fault.Tie as tie

@@ -1,3 +1,4 @@
+-- `views::in_store` meets its contract: byte by byte.
 use Prim.Native.Nat.{_-_}
 use mathlib.Core.Path.{sym}
 use native.Mathlib.Omega.{arith}

@@ -13,4 +13,4 @@ string-at-spec =
     (λ c. search needs)
     (λ c. search needs)
     (λ c. as-told judgedRead (c .before .start .given .1) (c .before .before .before .string-at .ensures))
-    (λ c. as-told judgedRead (c .before .which .given .1) (c .before .before .before .string-at .ensures)))
+    (λ c. as-told judgedRead (c .before .r .given .1) (c .before .before .before .string-at .ensures)))

@@ -8,8 +8,8 @@ use Rattle.output.proofs.Laws.{done, full}
 
 returns : tie.Need-returns
 returns c =
-    let a = c .before .before .before .before .args in
-    full (stringBytes (a .c .now)) _ _ (c .before .string-length .ensures) (c .if1 .taken)
+    let a = c .before .before .before .before .before .args in
+    full (stringBytes (a .c .now)) _ _ (c .before .before .string-length .ensures) (c .before .if1 .taken) _ (c .refuse .ensures)
 
 returns-2 : tie.Need-returns-2
 returns-2 c =
@@ -20,6 +20,7 @@ pub write-bytes-spec : {M : Type 1} → statement M
 write-bytes-spec =
     tie.close
     (tie.spec
+    (λ c κs. search needs)
     (λ c κs. search needs)
     returns
     (λ c κs. search needs)

@@ -11,8 +11,8 @@ use Rattle.writers.proofs.Framed.{length-framed}
 
 returns : tie.Need-returns
 returns c =
-    let a = c .before .before .before .before .args in
-    full (framedBytes (a .c .now)) _ _ (c .before .framed-length .ensures ∙ sym (length-framed (a .c .now))) (c .if1 .taken)
+    let a = c .before .before .before .before .before .args in
+    full (framedBytes (a .c .now)) _ _ (c .before .before .framed-length .ensures ∙ sym (length-framed (a .c .now))) (c .before .if1 .taken) _ (c .refuse .ensures)
 
 returns-2 : tie.Need-returns-2
 returns-2 c =
@@ -23,6 +23,7 @@ pub write-framed-spec : {M : Type 1} → statement M
 write-framed-spec =
     tie.close
     (tie.spec
+    (λ c κs. search needs)
     (λ c κs. search needs)
     returns
     (λ c κs. omega (arith, length-framed (c .before .before .before .before .before .args .c .now)))

@@ -14,9 +14,15 @@ returns c =
 
 returns-2 : tie.Need-returns-2
 returns-2 c =
-    let a = c .before .before .before .before .args in
-    let t = c .before .is-text in
-    string-bad (t .result) (a .c .now) (t .ensures) (a .out .now) (c .if1 .left)
+    let a = c .before .before .before .before .before .args in
+    let t = c .before .before .is-text in
+    string-bad (t .result) (a .c .now) (t .ensures) (a .out .now) (c .before .if1 .left) _ (c .refuse .ensures)
 
 pub write-string-spec : {M : Type 1} → statement M
-write-string-spec = tie.close (tie.spec (λ c κs. search needs) (λ c κs. search needs) (λ c. search needs) returns returns-2)
+write-string-spec = tie.close (tie.spec
+    (λ c κs. search needs)
+    (λ c κs. search needs)
+    (λ c. search needs)
+    returns
+    (λ c κs. search needs)
+    returns-2)

@@ -12,9 +12,9 @@ returns c =
 
 returns-2 : tie.Need-returns-2
 returns-2 c =
-    let a = c .before .before .before .before .before .before .args in
-    let w = c .before .before .before .write-four in
-    little-full 4 (a .x) (a .out .now) (w .last .0) (w .result) (w .ensures .0) (w .ensures .1) (c .if1 .left)
+    let a = c .before .before .before .before .before .before .before .args in
+    let w = c .before .before .before .before .write-four in
+    little-full 4 (a .x) (a .out .now) (w .last .0) (w .result) (w .ensures .0) (w .ensures .1) (c .before .if1 .left) _ (c .refuse .ensures)
 
 pub write-u32-spec : {M : Type 1} → statement M
 write-u32-spec =
@@ -23,5 +23,6 @@ write-u32-spec =
     (λ c κs. search needs)
     (λ c. search needs)
     returns
+    (λ c κs. search needs)
     (λ c. search needs)
     returns-2)

@@ -15,9 +15,9 @@ returns c =
 returns-2 : tie.Need-returns-2
 unfolding numberBytes
 returns-2 c =
-    let a = c .before .before .before .before .before .before .args in
-    let w = c .before .before .before .write in
-    little-full 8 (a .x) (a .out .now) (w .last .0) (w .result) (w .ensures .0) (w .ensures .1) (c .if1 .left)
+    let a = c .before .before .before .before .before .before .before .args in
+    let w = c .before .before .before .before .write in
+    little-full 8 (a .x) (a .out .now) (w .last .0) (w .result) (w .ensures .0) (w .ensures .1) (c .before .if1 .left) _ (c .refuse .ensures)
 
 pub write-u64-spec : {M : Type 1} → statement M
 write-u64-spec =
@@ -26,5 +26,6 @@ write-u64-spec =
     (λ c κs. search needs)
     (λ c. search needs)
     returns
+    (λ c κs. search needs)
     (λ c. search needs)
     returns-2)

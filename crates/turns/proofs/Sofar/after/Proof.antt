@@ -2,15 +2,15 @@
 use borrow.Author.Needs.{needs}
 use Rattle.turns.proofs.Sofar.after.Statement.{statement}
 use Rattle.turns.proofs.Sofar.after.Tie as tie
-use Rattle.turns.specs.Sofar.{bothOf, said}
-use Rattle.turns.proofs.Ways.{stream-bit, after-refused, after-fine}
+use Rattle.turns.specs.Sofar.{said}
+use Rattle.turns.proofs.Ways.{after-refused, after-fine}
 
 returns : tie.Need-returns
-returns c = after-refused (c .before .before .before .before .before .before .args .of-daemon) (bothOf (c .before .before .before .before .before .before .args .self)) (c .before .before .before .before .before .before .args .turn) _ _ _ _ _ (c .before .before .before .o .given .1) (c .refuse .ensures) (stream-bit (c .before .before .before .before .before .before .args .of-daemon) _ (c .before .bit .ensures))
+returns c = search (after-refused, c .before .before .before .o .given .1)
 
 returns-2 : tie.Need-returns-2
 unfolding said
-returns-2 c = after-fine (c .before .before .before .before .before .args .of-daemon) (bothOf (c .before .before .before .before .before .args .self)) (c .before .before .before .before .before .args .turn) _ _ (c .before .either .ensures) (c .either2 .ensures) (c .before .before .enum-told .given .1)
+returns-2 c = search (after-fine, c .before .before .enum-told .given .1)
 
 pub after-spec : {M : Type 1} → statement M
 after-spec =

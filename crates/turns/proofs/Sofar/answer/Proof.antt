@@ -2,14 +2,13 @@
 use borrow.Author.Needs.{needs}
 use Rattle.turns.proofs.Sofar.answer.Statement.{statement}
 use Rattle.turns.proofs.Sofar.answer.Tie as tie
-use Rattle.versions.specs.Handshake.{versionOf}
 use Rattle.turns.proofs.Ways.{answer-refused, answer-fine}
 
 returns : tie.Need-returns
-returns c = answer-refused (c .before .before .before .args .self) (versionOf (c .before .before .before .args .client-version)) _ _ _ _ (c .before .enum-told2 .given .1) (c .empty .ensures)
+returns c = search (answer-refused, c .before .enum-told2 .given .1)
 
 returns-2 : tie.Need-returns-2
-returns-2 c = answer-fine (c .before .before .before .before .before .before .before .args .self) (versionOf (c .before .before .before .before .before .before .before .args .client-version)) _ (versionOf (c .before .before .before .before .server-version .result)) _ (c .before .before .before .before .before .enum-told .given .1) (c .before .before .versions .ensures) (c .before .before .before .before .server-version .ensures) (c .before .before .before .number .ensures)
+returns-2 c = search (answer-fine, c .before .before .before .before .before .enum-told .given .1)
 
 pub answer-spec : {M : Type 1} → statement M
 answer-spec =

@@ -5,13 +5,13 @@ use Rattle.turns.proofs.Sofar.require.Tie as tie
 use Rattle.turns.proofs.Ways.{remains, holds-fine, fails-fine}
 
 returns : tie.Need-returns
-returns c = remains (c .before .before .args .self) _ _ _ _ (c .enum-told2 .given .1)
+returns c = search (remains, c .enum-told2 .given .1)
 
 returns-2 : tie.Need-returns-2
-returns-2 c = holds-fine (c .before .before .before .args .self) _ _ _ _ (c .before .enum-told .given .1) (c .if1 .taken)
+returns-2 c = search (holds-fine, c .before .enum-told .given .1)
 
 returns-3 : tie.Need-returns-3
-returns-3 c = fails-fine (c .before .before .before .before .args .self) _ _ _ _ _ (c .before .before .enum-told .given .1) (c .before .if1 .left) (c .refuse .ensures)
+returns-3 c = search (fails-fine, c .before .before .enum-told .given .1)
 
 pub require-spec : {M : Type 1} → statement M
 require-spec =

@@ -5,10 +5,10 @@ use Rattle.turns.proofs.Sofar.turn.Tie as tie
 use Rattle.turns.proofs.Ways.{remains, turn-fine}
 
 returns : tie.Need-returns
-returns c = remains (c .before .before .before .args .self) _ _ _ _ (c .enum-told2 .given .1)
+returns c = search (remains, c .enum-told2 .given .1)
 
 returns-2 : tie.Need-returns-2
-returns-2 c = turn-fine (c .before .before .before .before .before .before .before .args .of-daemon) _ _ _ (c .before .before .before .before .before .before .before .args .self) (c .before .before .before .before .enum-told .given .1) _ (c .before .before .before .either .ensures) _ (c .before .judge-record .ensures) _ (c .after .ensures)
+returns-2 c = search (turn-fine, c .before .before .before .before .before .enum-told .given .1)
 
 pub turn-spec : {M : Type 1} → statement M
 turn-spec =
@@ -17,6 +17,7 @@ turn-spec =
     (λ c. search needs)
     (λ c. search needs)
     returns
+    (λ c κs. search needs)
     (λ c κs. search needs)
     (λ c κs. search needs)
     (λ c κs. search needs)

@@ -1,0 +1,25 @@
+-- `protocol::skip_brief` meets its contract: nothing, a number, or a fold.
+use borrow.Author.Needs.{needs}
+use Rattle.protocol.proofs.skip_brief.Statement.{statement}
+use Rattle.protocol.proofs.skip_brief.Tie as tie
+use denote.Ref.{now}
+use Rattle.reading.proofs.Filled.{brief-is}
+use Rattle.protocol.proofs.Rows.{brief-nothing, brief-short, brief-number}
+
+pub skip-brief-spec : {M : Type 1} → statement M
+skip-brief-spec =
+    tie.close
+    (tie.spec
+    (λ c κs. search needs)
+    (λ c. search needs)
+    (λ c. search needs)
+    (λ c κs. search needs)
+    (λ c. search needs)
+    (λ c κs. search needs)
+    (λ c. search needs)
+    (λ c. search needs)
+    (λ c κs. search needs)
+    (λ c. brief-nothing (c .before .before .before .before .args .layout) (now (c .before .before .before .before .args .s)) (brief-is (c .before .before .before .before .args .layout) _ _ (c .before .before .in-brief .ensures .1) (c .enum-told .given .1)))
+    (λ c. brief-short (c .before .before .before .before .before .before .before .before .args .layout) (now (c .before .before .before .before .before .before .before .before .args .s)) (brief-is (c .before .before .before .before .before .before .before .before .args .layout) _ _ (c .before .before .before .before .before .before .in-brief .ensures .1) (c .before .before .before .before .enum-told2 .given .1)) _ (c .before .before .before .number-at .ensures) _ (c .refuse .ensures) (c .before .enum-told3 .given .1))
+    (λ c. brief-number (c .before .before .before .before .before .before .before .args .layout) (now (c .before .before .before .before .before .before .before .args .s)) (brief-is (c .before .before .before .before .before .before .before .args .layout) _ _ (c .before .before .before .before .before .in-brief .ensures .1) (c .before .before .before .enum-told2 .given .1)) _ (c .before .before .number-at .ensures) _ (c .enum-told4 .given .1))
+    (λ c. search needs))

@@ -1,0 +1,3 @@
+-- `Unique` is what docs/PROOFS.md cites; `Laws` serves the functions' proofs, here and in the crates above.
+pub mod Laws
+pub mod Unique
