@@ -310,22 +310,19 @@ pub fn fill(
     }
 }
 
-// Start and length of each string that is kept, into a room of numbers from a place on, and the place after them.
-pub fn fill_entries(s: &[u8], at: usize, layout: Layout, out: &mut [u64], from: usize) -> usize
-    ensures { λ r. ⌜ Put (now (out .entry)) from (entriesOf (piecesOf layout (now (s .entry)) at)) (now (out .exit)) r ⌝ }
+// The entries alone.
+pub fn fill_entries(
+    s: &[u8],
+    from: usize,
+    layout: Layout,
+    words: &mut [u64],
+    word: usize,
+    bytes: &mut [u8],
+    byte: usize,
+) -> Places
+    ensures words { λ r. ⌜ Put (now (words .entry)) word (entriesOf (piecesOf layout (now (s .entry)) from)) (now (words .exit)) (r .words) ⌝ }
+    ensures bytes { λ r. ⌜ Put (now (bytes .entry)) byte (bytesOf (entriesOf (piecesOf layout (now (s .entry)) from))) (now (bytes .exit)) (r .bytes) ⌝ }
 {
     let mut none: [u8; 0] = [];
-    let mut nothing: [u8; 0] = [];
-    let places = fill(s, at, layout, out, from, &mut none, 0, &mut nothing);
-    places.words
-}
-
-// The same as sixteen bytes each.
-pub fn fill_entry_bytes(s: &[u8], at: usize, layout: Layout, out: &mut [u8], from: usize) -> usize
-    ensures { λ r. ⌜ Put (now (out .entry)) from (bytesOf (entriesOf (piecesOf layout (now (s .entry)) at))) (now (out .exit)) r ⌝ }
-{
-    let mut none: [u64; 0] = [];
-    let mut nothing: [u8; 0] = [];
-    let places = fill(s, at, layout, &mut none, 0, out, from, &mut nothing);
-    places.bytes
+    fill(s, from, layout, words, word, bytes, byte, &mut none)
 }

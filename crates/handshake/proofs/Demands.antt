@@ -16,7 +16,7 @@ use Rattle.layouts.specs.Handshake.{hear, heardEntries, handshake, daemonHandsh
 use Rattle.judge.specs.declared.Answer.{Answer}
 use Rattle.judge.specs.declared.Outcome.the-variants.{Fine, Refused}
 use Rattle.judge.proofs.Answers.{answer-fine, refused-keeps, fine-reports, beyond}
-use Rattle.turns.proofs.Room.{handshake-counted, daemon-counted}
+use Rattle.handshake.proofs.Room.{handshake-counted, daemon-counted}
 use Rattle.handshake.proofs.parse_handshake.Reads as parse-handshake
 use Rattle.handshake.proofs.parse_handshake.Kinds as parse-handshake-kinds
 use Rattle.handshake.proofs.parse_daemon_handshake.Reads as parse-daemon-handshake

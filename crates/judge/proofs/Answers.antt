@@ -36,7 +36,7 @@ abbrev isOk : Result L.Answer → ℕ
 isOk (ok a) = 1
 isOk (refused which place stream) = 0
 
-never : {A : Type 0} (o : Outcome) (x : Refusal) → o ≡ Fine → o ≡ Refused x → A
+pub never : {A : Type 0} (o : Outcome) (x : Refusal) → o ≡ Fine → o ≡ Refused x → A
 never o x e f = let z : _≡_ {A = ℕ} 1 0 = sym (ap isFine e) ∙ ap isFine f in absurd (omega arith)
 
 -- what was answered, and the lent memory that goes with it

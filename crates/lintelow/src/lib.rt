@@ -157,7 +157,7 @@ pub extern "C" fn lintelow_parse_handshake(
     if block.len() < block::BLOCK {
         return layouts::OUTPUT_FULL;
     }
-    let greeted = handshake_bytes::parse_handshake_bytes(client, daemon, entries);
+    let greeted = handshake::parse_handshake_bytes(client, daemon, entries);
     block::put(block, greeted)
 }
 
@@ -176,6 +176,6 @@ pub extern "C" fn lintelow_parse_daemon_handshake(
     if block.len() < block::BLOCK {
         return layouts::OUTPUT_FULL;
     }
-    let heard = handshake_bytes::parse_daemon_handshake_bytes(major, minor, daemon, entries);
+    let heard = handshake::parse_daemon_handshake_bytes(major, minor, daemon, entries);
     block::put(block, heard)
 }

@@ -28,7 +28,9 @@ use Rattle.judge.specs.Judged.{gathered, answerOf, answerAs, endedAs, inWindow,
 use Rattle.judge.proofs.Answers.{said-fine, said-refused, ended-fine, ended-refused}
 use Rattle.output.specs.Numbers.{bytesOf}
 use Rattle.output.proofs.Numbers.{bytes-length}
-use Rattle.reading.specs.Reading.{readBy, answeredAs, slotsIn, filledAfter, Planned}
+use Rattle.rooms.specs.Rooms.{slotsIn, filledAfter}
+use Rattle.rooms.proofs.Laws.{fitting}
+use Rattle.reading.specs.Reading.{readBy, answeredAs, Planned}
 
 none-there : (xs : List ℕ) → length xs ≡ 0 → xs ≡ []
 none-there [] e = refl
@@ -139,15 +141,7 @@ module _ (l : ℕ) (s : List ℕ) (slots room : ℕ) (c : ℕ) where
           → Lent words bytes payload ws bs ps
       all-filled words bytes payload ws bs ps h = (lent-filled _ words ws (h .0), (lent-filled _ bytes bs (h .1 .0), lent-filled _ payload ps (h .1 .1)))
 
--- ---- what fits is all there
-fitting : {A : Type 0} (o : Result A) (new lent : List ℕ) → ((x : A) → o ≡ ok x → length new ≤ length lent) → filledAfter o new lent ≡ lentAfter o new lent
-fitting (ok x) new lent h =
-    let e : 0 + length new ≡ length new = omega arith in
-    let g = h x refl in
-    sets-eq new lent 0 (omega arith) ∙ ap (λ (n : ℕ). new ++ drop n lent) e
-fitting (refused which place stream) new lent h = refl
-
--- with one of the two rooms for entries
+-- ---- with one of the two rooms for entries
 module _ (l : ℕ) (s payload : List ℕ) (c : ℕ) where
   abbrev all : ℕ → Result Ended
   all slots = readBy l s slots (length payload)

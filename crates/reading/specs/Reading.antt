@@ -1,10 +1,9 @@
 -- A layout as `layouts` reads it from the start of a stream, as the code answers it.
-use Prim.Native.Nat.{ℕ, _+_, _*_, _/_, _≤_}
+use Prim.Native.Nat.{ℕ, _*_, _≤_}
 use mathlib.Core.Path.{_≡_}
 use mathlib.Core.List.{List, []}
 use lib.ListN.{length, take}
-use lib.Seq.{sets}
-use Rattle.layouts.specs.Primitive.{Version, Result, ok, refused, onward}
+use Rattle.layouts.specs.Primitive.{Version, Result, ok, onward}
 use Rattle.layouts.specs.Record.{blank}
 use Rattle.layouts.specs.Pieces.{Pieces}
 use Rattle.layouts.specs.Judge.{Ended, judgeOf, entriesOf, payloadOf}
@@ -18,15 +17,6 @@ readBy l s slots room = judgeOf s slots room blank (piecesOf l s 0)
 -- an answer, with the kind by its code in the table
 abbrev pub answeredAs : Version → (code : ℕ) → Result Ended → Result Answer
 answeredAs v c o = onward o (λ e. ok (record { kind = kindNumbered v (e .found .present) c; ends = e .ends; ends2 = 0; found = e .found }))
-
--- two numbers make a slot, or sixteen bytes
-abbrev pub slotsIn : (words bytes : List ℕ) → ℕ
-slotsIn words bytes = length words / 2 + length bytes / 16
-
--- lent memory afterwards: what is reported stands at its front, as far as it fits; a refusal changes nothing
-abbrev pub filledAfter : {A : Type 0} → Result A → (reported lent : List ℕ) → List ℕ
-filledAfter (ok a) new lent = sets lent 0 new
-filledAfter (refused which place stream) new lent = lent
 
 -- what was judged: the window of 16 numbers has the entries, if they are 8 at most; where no payload is reported, none is there
 pub record Planned (window : List ℕ) (entries total : ℕ) (s : List ℕ) (p : Pieces) : Type 0 where

@@ -8,7 +8,8 @@ ghost use Rattle.layouts.specs.Judge.{entriesOf, payloadOf, lentAfter};
 ghost use Rattle.items.specs.Items.{versionOf, piecesOf};
 ghost use Rattle.output.specs.Numbers.{bytesOf};
 ghost use Rattle.judge.specs.Judged.{answerOf, answerAs};
-ghost use Rattle.reading.specs.Reading.{readBy, answeredAs, slotsIn, filledAfter, Planned};
+ghost use Rattle.reading.specs.Reading.{readBy, answeredAs, Planned};
+ghost use Rattle.rooms.specs.Rooms.{slotsIn, filledAfter};
 use items::Layout;
 use judge::Answer;
 use judge::Said;
@@ -59,7 +60,7 @@ fn read(
     *numbers = [0u64; 12];
     *counts = [0u64; 3];
     let mut window = [0u64; 16];
-    let slots = words.len() / 2 + bytes.len() / 16;
+    let slots = rooms::slots(words, bytes);
     let a = judge::judge(
         s,
         0,

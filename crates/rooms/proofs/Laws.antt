@@ -7,13 +7,14 @@ use native.Mathlib.Numerals.{add-one}
 use native.Mathlib.Omega.{arith}
 use lib.ListN.{length, getD, set, take, drop, take-append-drop, length-append, length-set, length-drop, drop-of-length-le}
 use lib.Seq.{sets, sets-eq, length-sets, length-take-le, take-all, take-length, drop-drop, drop-cons, getD-take}
-use Rattle.layouts.specs.Primitive.{numberBytes}
+use Rattle.layouts.specs.Primitive.{numberBytes, Result, ok, refused}
+use Rattle.layouts.specs.Judge.{lentAfter}
 use Rattle.layouts.proofs.Little.{length-number}
 use Rattle.output.specs.Numbers.{bytesOf}
 use Rattle.output.specs.Placed.{placed}
 use Rattle.output.proofs.Laws as Output
-use Rattle.output.proofs.Numbers.{bytes-none, bytes-join}
-use Rattle.rooms.specs.Rooms.{Put, Filling}
+use Rattle.output.proofs.Numbers.{bytes-none, bytes-join, bytes-length}
+use Rattle.rooms.specs.Rooms.{placeAfter, Put, Filling, slotsIn, filledAfter}
 
 set-past : (l : List ℕ) (i x : ℕ) → length l ≤ i → set l i x ≡ l
 set-past [] i x h = refl
@@ -31,28 +32,35 @@ sets-join l i (x ∷ xs) ys =
 
 module _ (l : List ℕ) (i : ℕ) where
   pub put-past : (vs : List ℕ) → length l ≤ i → Put l i vs l i
-  put-past vs h = record { size = refl; then = λ ws. sets-past l i ws h ∙ sym (sets-past l i (vs ++ ws) h) }
+  put-past vs h = record { size = refl; then = λ ws. sets-past l i ws h ∙ sym (sets-past l i (vs ++ ws) h); place = omega arith }
 
-  pub put-one : (x : ℕ) → Put l i (x ∷ []) (set l i x) (i + 1)
-  put-one x = record { size = length-set l i x; then = λ ws. ap (λ (k : ℕ). sets (set l i x) k ws) (add-one i) }
+  pub put-one : (x : ℕ) → i < length l → Put l i (x ∷ []) (set l i x) (i + 1)
+  put-one x h = record { size = length-set l i x; then = λ ws. ap (λ (k : ℕ). sets (set l i x) k ws) (add-one i); place = omega arith }
 
   pub put-two : (m : List ℕ) (j : ℕ) (o : List ℕ) (k x y : ℕ) → Put l i (x ∷ []) m j → Put m j (y ∷ []) o k → Put l i (x ∷ y ∷ []) o k
-  put-two m j o k x y p q = record { size = q .size ∙ p .size; then = λ ws. q .then ws ∙ p .then (y ∷ ws) }
+  put-two m j o k x y p q =
+      let a = p .size in
+      let b = p .place in
+      let c = q .place in
+      record { size = q .size ∙ p .size; then = λ ws. q .then ws ∙ p .then (y ∷ ws); place = omega arith }
 
   -- a part of the stream that the room holds
-  pub put-fits : (vs m : List ℕ) (n : ℕ) → length vs ≡ n → m ≡ sets l i vs → Put l i vs m (i + n)
-  put-fits vs m n e q =
+  pub put-fits : (vs m : List ℕ) (n : ℕ) → length vs ≡ n → i + n ≤ length l → m ≡ sets l i vs → Put l i vs m (i + n)
+  put-fits vs m n e h q =
       record {
         size = ap length q ∙ length-sets l i vs;
         then = λ ws. ap (λ (x : List ℕ). sets x (i + n) ws) q ∙ ap (λ (k : ℕ). sets (sets l i vs) (i + k) ws) (sym e) ∙ sym (sets-join l i vs ws);
+        place = omega arith;
       }
 
   -- one that it holds a beginning of: the room is full
   pub put-full : (vs us m : List ℕ) → length l ≡ i + length vs → m ≡ sets l i vs → Put l i (vs ++ us) m (length l)
   put-full vs us m e q =
       let z : length m ≡ length l = ap length q ∙ length-sets l i vs in
+      let n = length-append vs us in
       record {
         size = z;
+        place = omega arith;
         then = λ ws.
             sets-past m (length l) ws (omega arith) ∙
             sym
@@ -67,8 +75,8 @@ module _ (c l : List ℕ) (i : ℕ) where
       let n : length (take k c) ≡ k = length-take-le k c (omega arith) in
       subst (λ (x : List ℕ). Put l i x m (length l)) (take-append-drop k c) (put-full l i (take k c) (drop k c) m (omega arith) q)
 
-  pub put-whole : (m : List ℕ) → m ≡ sets l i (take (length c) c) → Put l i c m (i + length c)
-  put-whole m q = put-fits l i c m (length c) refl (q ∙ ap (sets l i) (take-length c))
+  pub put-whole : (m : List ℕ) → i + length c ≤ length l → m ≡ sets l i (take (length c) c) → Put l i c m (i + length c)
+  put-whole m h q = put-fits l i c m (length c) refl h (q ∙ ap (sets l i) (take-length c))
 
 part-tail : (out : List ℕ) (at : ℕ) → take (length out - at) (drop at out) ≡ drop at out
 part-tail out at = take-all (length out - at) (drop at out) (simp length-drop (omega arith))
@@ -111,14 +119,18 @@ put-numbers l i m o start len h p q =
     let b = length-number len in
     let e : numberBytes start ++ numberBytes len ≡ numberBytes start ++ (numberBytes len ++ []) = ap (λ (x : List ℕ). numberBytes start ++ x) (sym (append-nil (numberBytes len))) in
     let n : length (numberBytes start ++ numberBytes len) ≡ 16 = length-append (numberBytes start) (numberBytes len) ∙ omega arith in
-    put-fits l i (numberBytes start ++ (numberBytes len ++ [])) o 16 (ap length (sym e) ∙ n)
+    put-fits l i (numberBytes start ++ (numberBytes len ++ [])) o 16 (ap length (sym e) ∙ n) h
     (Output.then l m o i (i + 8) (numberBytes start) (numberBytes len) (omega arith) (omega arith) p q
     ∙ Output.placed-fits i (numberBytes start ++ numberBytes len) l (omega arith) ∙ ap (sets l i) e)
 
 -- one after another
 pub put-join : (l : List ℕ) (i : ℕ) (vs m : List ℕ) (j : ℕ) (ws o : List ℕ) (k : ℕ) → Put l i vs m j → Put m j ws o k → Put l i (vs ++ ws) o k
 put-join l i vs m j ws o k p q =
-    record { size = q .size ∙ p .size; then = λ us. q .then us ∙ p .then (ws ++ us) ∙ ap (sets l i) (sym (append-assoc vs ws us)) }
+    let n = length-append vs ws in
+    let a = p .size in
+    let b = p .place in
+    let c = q .place in
+    record { size = q .size ∙ p .size; then = λ us. q .then us ∙ p .then (ws ++ us) ∙ ap (sets l i) (sym (append-assoc vs ws us)); place = omega arith }
 
 -- all that was to be written stands there
 pub put-all : (l vs o : List ℕ) (k : ℕ) → Put l 0 vs o k → length vs ≤ length l → o ≡ vs ++ drop (length vs) l
@@ -129,29 +141,38 @@ put-all l vs o k p h =
 -- ---- the loops
 module _ (lent : List ℕ) (from : ℕ) (es₀ : List ℕ) where
   pub filling-start : (es : List ℕ) → es ≡ es₀ → Filling lent from es₀ lent from es
-  filling-start es e = record { size = refl; same = λ ws. ap (λ (x : List ℕ). sets lent from (x ++ ws)) e }
+  filling-start es e = record { size = refl; same = λ ws. ap (λ (x : List ℕ). sets lent from (x ++ ws)) e; place = ap (placeAfter lent from) e }
 
   pub filling-as : (out : List ℕ) (n : ℕ) (es es₁ es' : List ℕ) → es₀ ≡ es₁ → es' ≡ es → Filling lent from es₁ out n es → Filling lent from es₀ out n es'
   filling-as out n es es₁ es' e e' f =
       record {
         size = f .size;
         same = λ ws. ap (λ (x : List ℕ). sets out n (x ++ ws)) e' ∙ f .same ws ∙ ap (λ (x : List ℕ). sets lent from (x ++ ws)) (sym e);
+        place = ap (placeAfter out n) e' ∙ f .place ∙ ap (placeAfter lent from) (sym e);
       }
 
   module _ (out : List ℕ) (n : ℕ) (es : List ℕ) (f : Filling lent from es₀ out n es) where
     pub filling-put : (vs rest out' : List ℕ) (n' : ℕ) → es ≡ vs ++ rest → Put out n vs out' n' → Filling lent from es₀ out' n' rest
     filling-put vs rest out' n' e p =
+        let l : length es ≡ length vs + length rest = ap length e ∙ length-append vs rest in
+        let a = p .size in
+        let b = p .place in
+        let c : placeAfter out' n' rest ≡ placeAfter out n es = omega arith in
         record {
           size = p .size ∙ f .size;
           same = λ ws. p .then (rest ++ ws) ∙ ap (sets out n) (sym (append-assoc vs rest ws)) ∙ ap (λ (x : List ℕ). sets out n (x ++ ws)) (sym e) ∙ f .same ws;
+          place = c ∙ f .place;
         }
 
     -- as far as another loop went
     pub filling-on : (out' : List ℕ) (n' : ℕ) (es' : List ℕ) → Filling out n es out' n' es' → Filling lent from es₀ out' n' es'
-    filling-on out' n' es' g = record { size = g .size ∙ f .size; same = λ ws. g .same ws ∙ f .same ws }
+    filling-on out' n' es' g = record { size = g .size ∙ f .size; same = λ ws. g .same ws ∙ f .same ws; place = g .place ∙ f .place }
 
     pub filling-end : es ≡ [] → Put lent from es₀ out n
-    filling-end e = record { size = f .size; then = λ ws. sym (ap (λ (x : List ℕ). sets out n (x ++ ws)) e) ∙ f .same ws }
+    filling-end e =
+        let l = ap length e in
+        let g = f .place in
+        record { size = f .size; then = λ ws. sym (ap (λ (x : List ℕ). sets out n (x ++ ws)) e) ∙ f .same ws; place = omega arith }
 
 pub put-sets : (lent : List ℕ) (new out : List ℕ) (k : ℕ) → Put lent 0 new out k → out ≡ sets lent 0 new
 put-sets lent new out k p = p .then [] ∙ ap (sets lent 0) (append-nil new)
@@ -205,3 +226,33 @@ module _ (win : List ℕ) (n : ℕ) (words₀ bytes₀ : List ℕ) where
             words = filling-put words₀ 0 all# words w _ (g .words) (x ∷ y ∷ []) _ words' w' next-two f;
             bytes = filling-put bytes₀ 0 (bytesOf all#) bytes b _ (g .bytes) (bytesOf (x ∷ y ∷ [])) _ bytes' b' (ap bytesOf next-two ∙ bytes-join (x ∷ y ∷ []) _) k;
           }
+
+-- ---- what fits is all there
+pub fitting : {A : Type 0} (o : Result A) (new lent : List ℕ) → ((x : A) → o ≡ ok x → length new ≤ length lent) → filledAfter o new lent ≡ lentAfter o new lent
+fitting (ok x) new lent h =
+    let e : 0 + length new ≡ length new = omega arith in
+    let g = h x refl in
+    sets-eq new lent 0 (omega arith) ∙ ap (λ (n : ℕ). new ++ drop n lent) e
+fitting (refused which place stream) new lent h = refl
+
+-- a call with one of the two rooms for entries, the other one empty
+module _ {A C : Type 0} (o : ℕ → Result A) (f : Result A → C) (whole : List ℕ) (fits : (n : ℕ) (x : A) → o n ≡ ok x → length whole ≤ 2 * n) (r : C) (words ws bytes bs : List ℕ)
+    (h : (r ≡ f (o (slotsIn words bytes))) × ((ws ≡ filledAfter (o (slotsIn words bytes)) whole words) × (bs ≡ filledAfter (o (slotsIn words bytes)) (bytesOf whole) bytes))) where
+  pub with-words : bytes ≡ [] → (r ≡ f (o (length words / 2))) × (ws ≡ lentAfter (o (length words / 2)) whole words)
+  with-words e =
+      let n = length words / 2 in
+      let z = ap length e in
+      let k : slotsIn words bytes ≡ n = omega arith in (
+        h .0 ∙ ap (λ (i : ℕ). f (o i)) k,
+        h .1 .0 ∙ ap (λ (i : ℕ). filledAfter (o i) whole words) k ∙ fitting (o n) whole words (λ x q. let g = fits n x q in omega arith),
+      )
+
+  pub with-bytes : words ≡ [] → (r ≡ f (o (length bytes / 16))) × (bs ≡ lentAfter (o (length bytes / 16)) (bytesOf whole) bytes)
+  with-bytes e =
+      let n = length bytes / 16 in
+      let z = ap length e in
+      let k : slotsIn words bytes ≡ n = omega arith in
+      let l = bytes-length whole in (
+        h .0 ∙ ap (λ (i : ℕ). f (o i)) k,
+        h .1 .1 ∙ ap (λ (i : ℕ). filledAfter (o i) (bytesOf whole) bytes) k ∙ fitting (o n) (bytesOf whole) bytes (λ x q. let g = fits n x q in omega arith),
+      )

@@ -6,7 +6,14 @@ ghost use Prim.Native.Nat.{_+_, _*_, _/_, _≤_, min};
 ghost use lib.ListN.{length, take};
 ghost use lib.Seq.{sets};
 ghost use Rattle.output.specs.Numbers.{bytesOf};
-ghost use Rattle.rooms.specs.Rooms.{Put};
+ghost use Rattle.rooms.specs.Rooms.{Put, slotsIn};
+
+// How many entries there is room for.
+pub fn slots(words: &[u64], bytes: &[u8]) -> usize
+    ensures { λ r. ⌜ r ≡ slotsIn (now (words .entry)) (now (bytes .entry)) ⌝ }
+{
+    words.len() / 2 + bytes.len() / 16
+}
 
 // A number.
 fn put(out: &mut [u64], at: usize, x: u64) -> usize

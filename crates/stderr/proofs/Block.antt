@@ -1,9 +1,10 @@
 -- The answers of the loop, and of the error block behind it.
 use Prim.Native.Nat.{ℕ, _*_, _/_, _≤_}
-use mathlib.Core.Path.{_≡_, refl, sym, _∙_, ap}
+use mathlib.Core.Path.{_≡_, refl, sym, _∙_, ap, subst}
 use mathlib.Core.List.{List, []}
 use mathlib.Core.Bool.{Bool, true, false}
 use lib.ListN.{length}
+use lib.Seq.{sets}
 use lib.Dec.{eqb}
 use borrow.Author.Tests.{eq-eqb, ne-eqb}
 use native.Mathlib.Omega.{arith}
@@ -17,7 +18,8 @@ use Rattle.layouts.specs.Judge.{Ended, judgeOf, entriesOf, lentAfter}
 use Rattle.layouts.specs.Calls.{Answer}
 use Rattle.layouts.specs.Stderr as L
 use Rattle.layouts.specs.Stderr.{Error, stoppedRecord, stderrLoop, stderrAnswer, ifError, errorBlock, readStderrLoop, readStderrWithError, errorPieces}
-use Rattle.layouts.proofs.Judge.{Read, judge-read, entries-length}
+use Rattle.layouts.proofs.Judge.{judge-read, entries-length}
+use Rattle.layouts.proofs.Placed.{never-both}
 use Rattle.table.specs.Packed as P
 use Rattle.table.specs.Claims.{others}
 use Rattle.items.specs.Items.{versionOf, firstOf, piecesOf}
@@ -27,9 +29,9 @@ use Rattle.judge.specs.declared.Answer as C
 use Rattle.judge.specs.Judged.{answerAs, endedAs}
 use Rattle.judge.proofs.Answers.{answer-fine, answer-refused, ended-fine, ended-refused}
 use Rattle.output.specs.Numbers.{bytesOf}
-use Rattle.output.proofs.Numbers.{bytes-none, bytes-length}
-use Rattle.rooms.specs.Rooms.{Put}
-use Rattle.rooms.proofs.Laws.{put-all}
+use Rattle.output.proofs.Numbers.{bytes-none}
+use Rattle.rooms.specs.Rooms.{Put, slotsIn, filledAfter}
+use Rattle.rooms.proofs.Laws.{put-sets, with-words, with-bytes}
 use Rattle.stderr.specs.declared.Stopped.{Stopped}
 use Rattle.stderr.specs.declared.Stopped.the-variants as T
 use Rattle.stderr.specs.Loop.{stoppedAs, recordFor}
@@ -53,47 +55,80 @@ module _ (s : List ℕ) (at : ℕ) (r : Record) (l : ℕ) (w : (versionOf l ≡ 
     answered-as (ok x) = refl
     answered-as (refused which place stream) = refl
 
-    pub block-answer : a ≡ answerAs (answerOf said)
+    block-answer : a ≡ answerAs (answerOf said)
     block-answer = judged-is ∙ ap answerAs (answered-as said)
 
-    pub block-kept : (y : Refusal) → a .outcome ≡ Refused y → (new lent : List ℕ) → lent ≡ lentAfter said new lent
+    block-kept : (y : Refusal) → a .outcome ≡ Refused y → (new lent : List ℕ) → lent ≡ filledAfter said new lent
     block-kept y f new lent =
-        ap (λ (o : Result Ended). lentAfter o new lent)
+        ap (λ (o : Result Ended). filledAfter o new lent)
         (sym (ended-refused said (y .which) (y .place) (y .stream) (answer-refused a (endedAs said) y judged-is f)))
 
-    module _ (f : a .outcome ≡ Fine) where
-      block-fine-is : said ≡ ok (record { found = a .found; ends = a .ends })
-      block-fine-is = ended-fine said _ (answer-fine a (endedAs said) judged-is f)
+    -- as numbers, or as their bytes
+    block-put : a .outcome ≡ Fine → (form : List ℕ → List ℕ) (lent out : List ℕ) (k : ℕ) → Put lent 0 (form (entriesOf (piecesOf l s at))) out k
+        → out ≡ filledAfter said (form (entriesOf (run errorBlock s at))) lent
+    block-put f form lent out k p =
+        put-sets lent (form (entriesOf (piecesOf l s at))) out k p
+        ∙ ap (λ (y : Pieces). sets lent 0 (form (entriesOf y))) block-at
+        ∙ ap (λ (o : Result Ended). filledAfter o (form (entriesOf (run errorBlock s at))) lent) (sym (ended-fine said _ (answer-fine a (endedAs said) judged-is f)))
 
-      block-fits : r .entries ≡ 0 → r .payload ≡ 0 → length (entriesOf (run errorBlock s at)) ≤ 2 * slots
-      block-fits z y =
-          let reads : Read slots 0 r (run errorBlock s at) (record { found = a .found; ends = a .ends }) =
-          judge-read s slots 0 r (run errorBlock s at) (record { found = a .found; ends = a .ends }) block-fine-is in
-          let f = reads .fits (omega arith) (omega arith) in
-          let l = entries-length (run errorBlock s at) in
-          omega (arith, f)
+  -- judged with as many slots as the rooms have
+  module _ (words bytes : List ℕ) (slots : ℕ) (k : slots ≡ slotsIn words bytes) (a : C.Answer) (j : a ≡ answerAs (endedAs (judgeOf s slots 0 r (piecesOf l s at)))) where
+    abbrev BlockRead : (slots : ℕ) (ws bs : List ℕ) → Type 0
+    BlockRead n ws bs =
+        (a ≡ answerAs (answerOf (judgeOf s n 0 r (run errorBlock s at))))
+        × ((ws ≡ filledAfter (judgeOf s n 0 r (run errorBlock s at)) (entriesOf (run errorBlock s at)) words)
+        × (bs ≡ filledAfter (judgeOf s n 0 r (run errorBlock s at)) (bytesOf (entriesOf (run errorBlock s at))) bytes))
 
-      -- in a form that fits the lent room
-      block-put : (form : List ℕ → List ℕ) (lent out : List ℕ) (k : ℕ) → length (form (entriesOf (run errorBlock s at))) ≤ length lent
-          → Put lent 0 (form (entriesOf (piecesOf l s at))) out k → out ≡ lentAfter said (form (entriesOf (run errorBlock s at))) lent
-      block-put form lent out k h p =
-          let q : Put lent 0 (form (entriesOf (run errorBlock s at))) out k = rw block-at at p in
-          put-all lent (form (entriesOf (run errorBlock s at))) out k q h
-          ∙ ap (λ (o : Result Ended). lentAfter o (form (entriesOf (run errorBlock s at))) lent) (sym block-fine-is)
+    pub block-refused : (y : Refusal) → a .outcome ≡ Refused y → BlockRead (slotsIn words bytes) words bytes
+    block-refused y f = subst (λ (n : ℕ). BlockRead n words bytes) k (block-answer slots a j, (block-kept slots a j y f _ words, block-kept slots a j y f _ bytes))
 
-  -- two numbers, or sixteen bytes, make a slot
-  module _ (lent : List ℕ) (a : C.Answer) (f : a .outcome ≡ Fine) (z : (r .entries ≡ 0) × (r .payload ≡ 0)) (out : List ℕ) (k : ℕ) where
-    pub block-filled : a ≡ answerAs (endedAs (judgeOf s (length lent / 2) 0 r (piecesOf l s at))) → Put lent 0 (entriesOf (piecesOf l s at)) out k
-        → out ≡ lentAfter (judgeOf s (length lent / 2) 0 r (run errorBlock s at)) (entriesOf (run errorBlock s at)) lent
-    block-filled j p =
-        let g = block-fits (length lent / 2) a j f (z .0) (z .1) in block-put (length lent / 2) a j f (λ (es : List ℕ). es) lent out k (omega arith) p
+    pub block-filled : a .outcome ≡ Fine → (ws : List ℕ) (n : ℕ) (bs : List ℕ) (m : ℕ) → Put words 0 (entriesOf (piecesOf l s at)) ws n → Put bytes 0 (bytesOf (entriesOf (piecesOf l s at))) bs m
+        → BlockRead (slotsIn words bytes) ws bs
+    block-filled f ws n bs m p q =
+        subst (λ (n : ℕ). BlockRead n ws bs) k
+        (block-answer slots a j, (block-put slots a j f (λ (es : List ℕ). es) words ws n p, block-put slots a j f bytesOf bytes bs m q))
 
-    pub block-bytes : a ≡ answerAs (endedAs (judgeOf s (length lent / 16) 0 r (piecesOf l s at))) → Put lent 0 (bytesOf (entriesOf (piecesOf l s at))) out k
-        → out ≡ lentAfter (judgeOf s (length lent / 16) 0 r (run errorBlock s at)) (bytesOf (entriesOf (run errorBlock s at))) lent
-    block-bytes j p =
-        let g = block-fits (length lent / 16) a j f (z .0) (z .1) in
-        let m = bytes-length (entriesOf (run errorBlock s at)) in
-        block-put (length lent / 16) a j f bytesOf lent out k (omega arith) p
+-- ---- the entries of what is read fit
+module _ (s : List ℕ) (slots : ℕ) (y : Answer) where
+  block-fits : (x : L.Stopped) (o : Result Ended) → judgeOf s slots 0 (stoppedRecord x) (run errorBlock s (x .ends)) ≡ o → answerOf o ≡ ok y
+      → length (entriesOf (run errorBlock s (x .ends))) ≤ 2 * slots
+  block-fits x (ok z) q e =
+      let f = judge-read s slots 0 (stoppedRecord x) (run errorBlock s (x .ends)) z q .fits (omega arith) (omega arith) in
+      let l = entries-length (run errorBlock s (x .ends)) in
+      omega (arith, f)
+  block-fits x (refused which place stream) q e = absurd (never-both e)
+
+  fits-by : (b : Bool) (x : L.Stopped) → ifError b x (λ u. judgeOf s slots 0 (stoppedRecord x) (run errorBlock s (x .ends))) ≡ ok y
+      → length (entriesOf (pick b (run errorBlock s (x .ends)) (end (x .ends)))) ≤ 2 * slots
+  unfolding entriesOf
+  fits-by true x e = block-fits x _ refl e
+  fits-by false x e = omega arith
+
+  error-fits : (o : Result L.Stopped) → onward o (λ x. ifError (eqb (x .code) Error) x (λ u. judgeOf s slots 0 (stoppedRecord x) (run errorBlock s (x .ends)))) ≡ ok y
+      → length (entriesOf (errorPieces s o)) ≤ 2 * slots
+  unfolding errorPieces
+  error-fits (ok x) e = fits-by (eqb (x .code) Error) x e
+  error-fits (refused which place stream) e = absurd (never-both e)
+
+with-error-fits : (s : List ℕ) (slots : ℕ) (y : Answer) → readStderrWithError s slots ≡ ok y → length (entriesOf (errorPieces s (stderrLoop s))) ≤ 2 * slots
+unfolding readStderrWithError
+with-error-fits s slots y e = error-fits s slots y (stderrLoop s) e
+
+-- ---- with one of the two rooms
+abbrev ErrorRead : (s : List ℕ) (slots : ℕ) (r : C.Answer) (words ws bytes bs : List ℕ) → Type 0
+ErrorRead s slots r words ws bytes bs =
+    (r ≡ answerAs (readStderrWithError s slots))
+    × ((ws ≡ filledAfter (readStderrWithError s slots) (entriesOf (errorPieces s (stderrLoop s))) words)
+    × (bs ≡ filledAfter (readStderrWithError s slots) (bytesOf (entriesOf (errorPieces s (stderrLoop s)))) bytes))
+
+module _ (s : List ℕ) (r : C.Answer) (words ws bytes bs : List ℕ) (h : ErrorRead s (slotsIn words bytes) r words ws bytes bs) where
+  pub error-words : bytes ≡ []
+      → (r ≡ answerAs (readStderrWithError s (length words / 2))) × (ws ≡ lentAfter (readStderrWithError s (length words / 2)) (entriesOf (errorPieces s (stderrLoop s))) words)
+  error-words e = with-words (readStderrWithError s) answerAs _ (with-error-fits s) r words ws bytes bs h e
+
+  pub error-bytes : words ≡ []
+      → (r ≡ answerAs (readStderrWithError s (length bytes / 16))) × (bs ≡ lentAfter (readStderrWithError s (length bytes / 16)) (bytesOf (entriesOf (errorPieces s (stderrLoop s)))) bytes)
+  error-bytes e = with-bytes (readStderrWithError s) answerAs _ (with-error-fits s) r words ws bytes bs h e
 
 -- ---- the loop's answers
 module _ (s : List ℕ) (l : Stopped) (e : stoppedAs l ≡ stderrLoop s) where
@@ -109,11 +144,13 @@ module _ (s : List ℕ) (l : Stopped) (e : stoppedAs l ≡ stderrLoop s) where
     unfolding readStderrWithError
     error-refused-is slots = rw (loop-as (T.Refused y) q)
 
-    pub error-refused : (slots : ℕ) (x : C.Answer) → x ≡ answerAs (refusedBy y) → x ≡ answerAs (readStderrWithError s slots)
-    error-refused slots x h = h ∙ ap answerAs (sym (error-refused-is slots))
-
-    pub error-kept : (slots : ℕ) (new lent : List ℕ) → lent ≡ lentAfter (readStderrWithError s slots) new lent
-    error-kept slots new lent = ap (λ (o : Result Answer). lentAfter o new lent) (sym (error-refused-is slots))
+    pub error-refused : (slots : ℕ) (x : C.Answer) (words bytes : List ℕ) → x ≡ answerAs (refusedBy y) → ErrorRead s slots x words words bytes bytes
+    error-refused slots x words bytes h =
+        let e = sym (error-refused-is slots) in
+        let es = entriesOf (errorPieces s (stderrLoop s)) in (
+          h ∙ ap answerAs e,
+          (ap (λ (o : Result Answer). filledAfter o es words) e, ap (λ (o : Result Answer). filledAfter o (bytesOf es) bytes) e),
+        )
 
   module _ (m c n : ℕ) (q : l ≡ T.Stops m c n) (r : Record) (h : r ≡ recordFor m c) where
     pub loop-stops : (x : C.Answer) → x ≡ answerAs (stderrAnswer n r) → x ≡ answerAs (readStderrLoop s)
@@ -132,40 +169,35 @@ module _ (s : List ℕ) (l : Stopped) (e : stoppedAs l ≡ stderrLoop s) where
       unfolding errorPieces
       pieces-by b z = rw (loop-as (T.Stops m c n) q, z)
 
-      pub error-block : (x : C.Answer) → c ≡ Error → x ≡ answerAs (answerOf (judgeOf s slots 0 r (run errorBlock s n))) → x ≡ answerAs (readStderrWithError s slots)
-      error-block x z p = p ∙ ap answerAs (sym (by-code true (eq-eqb c Error z)))
-
-      lent-answer : (o : Result Ended) (new lent : List ℕ) → lentAfter o new lent ≡ lentAfter (answerOf o) new lent
+      lent-answer : (o : Result Ended) (new lent : List ℕ) → filledAfter o new lent ≡ filledAfter (answerOf o) new lent
       lent-answer (ok x) new lent = refl
       lent-answer (refused which place stream) new lent = refl
 
-      pub error-lent : (form : List ℕ → List ℕ) (lent out : List ℕ) → c ≡ Error
-          → out ≡ lentAfter (judgeOf s slots 0 r (run errorBlock s n)) (form (entriesOf (run errorBlock s n))) lent
-          → out ≡ lentAfter (readStderrWithError s slots) (form (entriesOf (errorPieces s (stderrLoop s)))) lent
-      error-lent form lent out z p =
-          p ∙ lent-answer (judgeOf s slots 0 r (run errorBlock s n)) (form (entriesOf (run errorBlock s n))) lent ∙
-          ap (λ (o : Result Answer). lentAfter o (form (entriesOf (run errorBlock s n))) lent) (sym (by-code true (eq-eqb c Error z))) ∙
-          ap (λ (y : Pieces). lentAfter (readStderrWithError s slots) (form (entriesOf y)) lent) (sym (pieces-by true (eq-eqb c Error z)))
+      module _ (z : c ≡ Error) where
+        error-lent : (form : List ℕ → List ℕ) (lent out : List ℕ) → out ≡ filledAfter (judgeOf s slots 0 r (run errorBlock s n)) (form (entriesOf (run errorBlock s n))) lent
+            → out ≡ filledAfter (readStderrWithError s slots) (form (entriesOf (errorPieces s (stderrLoop s)))) lent
+        error-lent form lent out p =
+            p ∙ lent-answer (judgeOf s slots 0 r (run errorBlock s n)) (form (entriesOf (run errorBlock s n))) lent ∙
+            ap (λ (o : Result Answer). filledAfter o (form (entriesOf (run errorBlock s n))) lent) (sym (by-code true (eq-eqb c Error z))) ∙
+            ap (λ (y : Pieces). filledAfter (readStderrWithError s slots) (form (entriesOf y)) lent) (sym (pieces-by true (eq-eqb c Error z)))
 
-      pub error-filled : (lent out : List ℕ) → c ≡ Error → out ≡ lentAfter (judgeOf s slots 0 r (run errorBlock s n)) (entriesOf (run errorBlock s n)) lent
-          → out ≡ lentAfter (readStderrWithError s slots) (entriesOf (errorPieces s (stderrLoop s))) lent
-      error-filled = error-lent (λ (es : List ℕ). es)
+        pub error-block : (x : C.Answer) (words ws bytes bs : List ℕ)
+            → (x ≡ answerAs (answerOf (judgeOf s slots 0 r (run errorBlock s n))))
+            × ((ws ≡ filledAfter (judgeOf s slots 0 r (run errorBlock s n)) (entriesOf (run errorBlock s n)) words)
+            × (bs ≡ filledAfter (judgeOf s slots 0 r (run errorBlock s n)) (bytesOf (entriesOf (run errorBlock s n))) bytes))
+            → ErrorRead s slots x words ws bytes bs
+        error-block x words ws bytes bs p =
+            (p .0 ∙ ap answerAs (sym (by-code true (eq-eqb c Error z))), (error-lent (λ (es : List ℕ). es) words ws (p .1 .0), error-lent bytesOf bytes bs (p .1 .1)))
 
       module _ (z : c ≡ Error → ⊥) where
         no-error-is : readStderrWithError s slots ≡ stderrAnswer n r
         no-error-is = by-code false (ne-eqb c Error z) ∙ ap (stderrAnswer n) (sym h)
 
-        pub no-error : (x : C.Answer) → x ≡ answerAs (stderrAnswer n r) → x ≡ answerAs (readStderrWithError s slots)
-        no-error x p = p ∙ ap answerAs (sym no-error-is)
-
-        no-lent : (form : List ℕ → List ℕ) → form [] ≡ [] → (lent : List ℕ) → lent ≡ lentAfter (readStderrWithError s slots) (form (entriesOf (errorPieces s (stderrLoop s)))) lent
+        no-lent : (form : List ℕ → List ℕ) → form [] ≡ [] → (lent : List ℕ) → lent ≡ filledAfter (readStderrWithError s slots) (form (entriesOf (errorPieces s (stderrLoop s)))) lent
         unfolding entriesOf
         no-lent form e lent =
-            ap (λ (o : Result Answer). lentAfter o [] lent) (sym no-error-is) ∙ ap (λ (l : List ℕ). lentAfter (readStderrWithError s slots) l lent) (sym e) ∙
-            ap (λ (y : Pieces). lentAfter (readStderrWithError s slots) (form (entriesOf y)) lent) (sym (pieces-by false (ne-eqb c Error z)))
+            ap (λ (o : Result Answer). filledAfter o [] lent) (sym no-error-is) ∙ ap (λ (l : List ℕ). filledAfter (readStderrWithError s slots) l lent) (sym e) ∙
+            ap (λ (y : Pieces). filledAfter (readStderrWithError s slots) (form (entriesOf y)) lent) (sym (pieces-by false (ne-eqb c Error z)))
 
-        pub no-entries : (lent : List ℕ) → lent ≡ lentAfter (readStderrWithError s slots) (entriesOf (errorPieces s (stderrLoop s))) lent
-        no-entries = no-lent (λ (es : List ℕ). es) refl
-
-        pub no-bytes : (lent : List ℕ) → lent ≡ lentAfter (readStderrWithError s slots) (bytesOf (entriesOf (errorPieces s (stderrLoop s)))) lent
-        no-bytes = no-lent bytesOf bytes-none
+        pub no-error : (x : C.Answer) (words bytes : List ℕ) → x ≡ answerAs (stderrAnswer n r) → ErrorRead s slots x words words bytes bytes
+        no-error x words bytes p = (p ∙ ap answerAs (sym no-error-is), (no-lent (λ (es : List ℕ). es) refl words, no-lent bytesOf bytes-none bytes))

@@ -9,6 +9,7 @@ ghost use Rattle.layouts.specs.Stderr.{messageOf, errorBlock, stderrLoop, stder
 ghost use Rattle.codes.specs.Stderr.{codeNumber};
 ghost use Rattle.output.specs.Numbers.{bytesOf};
 ghost use Rattle.judge.specs.Judged.{answerAs};
+ghost use Rattle.rooms.specs.Rooms.{slotsIn, filledAfter};
 ghost use Rattle.stderr.specs.Loop.{said, stoppedAs, recordFor};
 use codes::stderr::StderrCode;
 use codes::stderr::StderrFound;
@@ -153,25 +154,32 @@ pub fn read_stderr_loop(s: &[u8]) -> Answer
 }
 
 // The error block from a place on, with the record so far.
-fn read_error_block(s: &[u8], at: usize, sofar: Record, entries: &mut [u64]) -> Answer
-    requires { ⌜ (sofar .entries ≡ 0) × (sofar .payload ≡ 0) ⌝ }
-    ensures answer { λ r. ⌜ r ≡ answerAs (onward (judgeOf (now (s .entry)) (length (now (entries .entry)) / 2) 0 sofar (run errorBlock (now (s .entry)) at)) (λ e. stderrAnswer (e .ends) (e .found))) ⌝ }
-    ensures entries { λ r. ⌜ now (entries .exit) ≡ lentAfter (judgeOf (now (s .entry)) (length (now (entries .entry)) / 2) 0 sofar (run errorBlock (now (s .entry)) at)) (entriesOf (run errorBlock (now (s .entry)) at)) (now (entries .entry)) ⌝ }
+fn read_error_block(
+    s: &[u8],
+    at: usize,
+    sofar: Record,
+    words: &mut [u64],
+    bytes: &mut [u8],
+) -> Answer
+    ensures answer { λ r. ⌜ r ≡ answerAs (onward (judgeOf (now (s .entry)) (slotsIn (now (words .entry)) (now (bytes .entry))) 0 sofar (run errorBlock (now (s .entry)) at)) (λ e. stderrAnswer (e .ends) (e .found))) ⌝ }
+    ensures words { λ r. ⌜ now (words .exit) ≡ filledAfter (judgeOf (now (s .entry)) (slotsIn (now (words .entry)) (now (bytes .entry))) 0 sofar (run errorBlock (now (s .entry)) at)) (entriesOf (run errorBlock (now (s .entry)) at)) (now (words .entry)) ⌝ }
+    ensures bytes { λ r. ⌜ now (bytes .exit) ≡ filledAfter (judgeOf (now (s .entry)) (slotsIn (now (words .entry)) (now (bytes .entry))) 0 sofar (run errorBlock (now (s .entry)) at)) (bytesOf (entriesOf (run errorBlock (now (s .entry)) at))) (now (bytes .entry)) ⌝ }
 {
-    let slots = entries.len() / 2;
     let block = items::layout(0, 0, table::ERROR_BLOCK);
-    let a = judge::judge_record(s, at, block, slots, 0, sofar);
+    let a = judge::judge_record(s, at, block, rooms::slots(words, bytes), 0, sofar);
     let o = a.outcome;
     let Outcome::Fine = o else {
         return a;
     };
-    fill::fill_entries(s, at, block, entries, 0);
+    fill::fill_entries(s, at, block, words, 0, bytes, 0);
     a
 }
 
-pub fn read_stderr_with_error(s: &[u8], entries: &mut [u64]) -> Answer
-    ensures answer { λ r. ⌜ r ≡ answerAs (readStderrWithError (now (s .entry)) (length (now (entries .entry)) / 2)) ⌝ }
-    ensures entries { λ r. ⌜ now (entries .exit) ≡ lentAfter (readStderrWithError (now (s .entry)) (length (now (entries .entry)) / 2)) (entriesOf (errorPieces (now (s .entry)) (stderrLoop (now (s .entry))))) (now (entries .entry)) ⌝ }
+// The loop, and behind Error its block.
+fn read(s: &[u8], words: &mut [u64], bytes: &mut [u8]) -> Answer
+    ensures answer { λ r. ⌜ r ≡ answerAs (readStderrWithError (now (s .entry)) (slotsIn (now (words .entry)) (now (bytes .entry)))) ⌝ }
+    ensures words { λ r. ⌜ now (words .exit) ≡ filledAfter (readStderrWithError (now (s .entry)) (slotsIn (now (words .entry)) (now (bytes .entry)))) (entriesOf (errorPieces (now (s .entry)) (stderrLoop (now (s .entry))))) (now (words .entry)) ⌝ }
+    ensures bytes { λ r. ⌜ now (bytes .exit) ≡ filledAfter (readStderrWithError (now (s .entry)) (slotsIn (now (words .entry)) (now (bytes .entry)))) (bytesOf (entriesOf (errorPieces (now (s .entry)) (stderrLoop (now (s .entry)))))) (now (bytes .entry)) ⌝ }
 {
     let l = stderr_loop(s);
     match l {
@@ -183,47 +191,26 @@ pub fn read_stderr_with_error(s: &[u8], entries: &mut [u64]) -> Answer
         } => {
             let r = stopped_record(messages, code);
             if code == StderrCode::Error.number() {
-                return read_error_block(s, ends, r, entries);
+                return read_error_block(s, ends, r, words, bytes);
             }
             answer(ends, r)
         }
     }
 }
 
-// The same with entries of sixteen bytes.
-fn read_error_block_bytes(s: &[u8], at: usize, sofar: Record, entries: &mut [u8]) -> Answer
-    requires { ⌜ (sofar .entries ≡ 0) × (sofar .payload ≡ 0) ⌝ }
-    ensures answer { λ r. ⌜ r ≡ answerAs (onward (judgeOf (now (s .entry)) (length (now (entries .entry)) / 16) 0 sofar (run errorBlock (now (s .entry)) at)) (λ e. stderrAnswer (e .ends) (e .found))) ⌝ }
-    ensures entries { λ r. ⌜ now (entries .exit) ≡ lentAfter (judgeOf (now (s .entry)) (length (now (entries .entry)) / 16) 0 sofar (run errorBlock (now (s .entry)) at)) (bytesOf (entriesOf (run errorBlock (now (s .entry)) at))) (now (entries .entry)) ⌝ }
+pub fn read_stderr_with_error(s: &[u8], entries: &mut [u64]) -> Answer
+    ensures answer { λ r. ⌜ r ≡ answerAs (readStderrWithError (now (s .entry)) (length (now (entries .entry)) / 2)) ⌝ }
+    ensures entries { λ r. ⌜ now (entries .exit) ≡ lentAfter (readStderrWithError (now (s .entry)) (length (now (entries .entry)) / 2)) (entriesOf (errorPieces (now (s .entry)) (stderrLoop (now (s .entry))))) (now (entries .entry)) ⌝ }
 {
-    let slots = entries.len() / 16;
-    let block = items::layout(0, 0, table::ERROR_BLOCK);
-    let a = judge::judge_record(s, at, block, slots, 0, sofar);
-    let o = a.outcome;
-    let Outcome::Fine = o else {
-        return a;
-    };
-    fill::fill_entry_bytes(s, at, block, entries, 0);
-    a
+    let mut none: [u8; 0] = [];
+    read(s, entries, &mut none)
 }
 
+// The same with entries of sixteen bytes.
 pub fn read_stderr_with_error_bytes(s: &[u8], entries: &mut [u8]) -> Answer
     ensures answer { λ r. ⌜ r ≡ answerAs (readStderrWithError (now (s .entry)) (length (now (entries .entry)) / 16)) ⌝ }
     ensures entries { λ r. ⌜ now (entries .exit) ≡ lentAfter (readStderrWithError (now (s .entry)) (length (now (entries .entry)) / 16)) (bytesOf (entriesOf (errorPieces (now (s .entry)) (stderrLoop (now (s .entry)))))) (now (entries .entry)) ⌝ }
 {
-    let l = stderr_loop(s);
-    match l {
-        Stopped::Refused(r) => judge::refused_answer(r),
-        Stopped::Stops {
-            messages,
-            code,
-            ends,
-        } => {
-            let r = stopped_record(messages, code);
-            if StderrCode::Error.number() == code {
-                return read_error_block_bytes(s, ends, r, entries);
-            }
-            answer(ends, r)
-        }
-    }
+    let mut none: [u64; 0] = [];
+    read(s, &mut none, entries)
 }

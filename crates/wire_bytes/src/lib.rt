@@ -24,6 +24,7 @@ pub fn read_string_set(s: &[u8], at: usize, entries: &mut [u8]) -> Answer
     let Outcome::Fine = o else {
         return a;
     };
-    fill::fill_entry_bytes(s, at, layout, entries, 0);
+    let mut none: [u64; 0] = [];
+    fill::fill_entries(s, at, layout, &mut none, 0, entries, 0);
     a
 }

@@ -4,7 +4,8 @@ use Rattle.handshake.proofs.fill_client.Statement.{statement}
 use Rattle.handshake.proofs.fill_client.Tie as tie
 use Prim.Native.Nat.{ℕ}
 use mathlib.Core.List.{List}
-use Rattle.turns.proofs.Filled.{one-turn}
+use Rattle.output.specs.Numbers.{bytesOf}
+use Rattle.handshake.proofs.Filled.{one-turn}
 
 pub fill-client-spec : {M : Type 1} → statement M
 fill-client-spec =
@@ -13,4 +14,5 @@ fill-client-spec =
     (λ c κs. search needs)
     (λ c κs. search needs)
     (λ c. search needs)
-    (λ c. search (one-turn (λ (xs : List ℕ). xs))))
+    (λ c. search needs)
+    (λ c. (search (one-turn (λ (xs : List ℕ). xs)), search (one-turn bytesOf))))

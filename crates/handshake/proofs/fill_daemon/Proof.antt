@@ -5,7 +5,9 @@ use Rattle.handshake.proofs.fill_daemon.Tie as tie
 use Prim.Native.Nat.{ℕ}
 use mathlib.Core.Path.{refl}
 use mathlib.Core.List.{List}
-use Rattle.turns.proofs.Filled.{two-turns}
+use Rattle.output.specs.Numbers.{bytesOf}
+use Rattle.output.proofs.Numbers.{bytes-join}
+use Rattle.handshake.proofs.Filled.{two-turns}
 
 pub fill-daemon-spec : {M : Type 1} → statement M
 fill-daemon-spec =
@@ -16,4 +18,5 @@ fill-daemon-spec =
     (λ c κs. search needs)
     (λ c κs. search needs)
     (λ c. search needs)
-    (λ c. search (two-turns (λ (xs : List ℕ). xs) (λ xs ys. refl))))
+    (λ c. search needs)
+    (λ c. (search (two-turns (λ (xs : List ℕ). xs) (λ xs ys. refl)), search (two-turns bytesOf bytes-join))))

@@ -9,15 +9,17 @@ pub read-spec : {M : Type 1} → statement M
 read-spec =
     tie.close
     (tie.spec
+    (λ c κs. search needs)
+    (λ c κs. search needs)
     (λ c. search needs)
+    (λ c. search needs)
+    (λ c κs. fine-planned (c .before .before .before .before .before .before .before .before .before .before .before .before .before .before .before .before .before .before .before .before .args .layout) (now (c .before .before .before .before .before .before .before .before .before .before .before .before .before .before .before .before .before .before .before .before .args .s)) _ _ (c .before .before .before .before .before .before .before .before .before .before .before .before .before .before .before .before .before .before .before .before .args .code) (c .before .before .before .before .before .before .before .judge .result) _ _ (c .before .before .before .before .before .before .before .judge .ensures .0) _ _ _ _ _ _ (c .before .before .before .before .before .a .given .1) _ (c .before .before .before .before .before .before .before .judge .ensures .1))
+    (λ c κs. search needs)
     (λ c κs. search needs)
     (λ c. search needs)
     (λ c. search needs)
-    (λ c κs. fine-planned (c .before .before .before .before .before .before .before .before .before .before .before .before .before .before .before .before .before .args .layout) (now (c .before .before .before .before .before .before .before .before .before .before .before .before .before .before .before .before .before .args .s)) _ _ (c .before .before .before .before .before .before .before .before .before .before .before .before .before .before .before .before .before .args .code) (c .before .before .before .before .before .before .before .judge .result) _ _ (c .before .before .before .before .before .before .before .judge .ensures .0) _ _ _ _ _ _ (c .before .before .before .before .before .a .given .1) _ (c .before .before .before .before .before .before .before .judge .ensures .1))
-    (λ c κs. search needs)
-    (λ c κs. search needs)
-    (λ c. (read-refused (c .before .before .before .before .before .before .before .before .before .before .before .before .args .layout) (now (c .before .before .before .before .before .before .before .before .before .before .before .before .args .s)) _ _ (c .before .before .before .before .before .before .before .before .before .before .before .before .args .code) (c .before .before .judge .result) _ _ (c .before .before .judge .ensures .0) _ (c .enum-told .given .1), all-kept (c .before .before .before .before .before .before .before .before .before .before .before .before .args .layout) (now (c .before .before .before .before .before .before .before .before .before .before .before .before .args .s)) _ _ (c .before .before .before .before .before .before .before .before .before .before .before .before .args .code) (c .before .before .judge .result) _ _ (c .before .before .judge .ensures .0) _ (c .enum-told .given .1) _ _ _))
+    (λ c. rw (← c .before .before .before .before .before .before .slots .ensures) (read-refused (c .before .before .before .before .before .before .before .before .before .before .before .before .before .before .before .args .layout) (now (c .before .before .before .before .before .before .before .before .before .before .before .before .before .before .before .args .s)) _ _ (c .before .before .before .before .before .before .before .before .before .before .before .before .before .before .before .args .code) (c .before .before .judge .result) _ _ (c .before .before .judge .ensures .0) _ (c .enum-told .given .1), all-kept (c .before .before .before .before .before .before .before .before .before .before .before .before .before .before .before .args .layout) (now (c .before .before .before .before .before .before .before .before .before .before .before .before .before .before .before .args .s)) _ _ (c .before .before .before .before .before .before .before .before .before .before .before .before .before .before .before .args .code) (c .before .before .judge .result) _ _ (c .before .before .judge .ensures .0) _ (c .enum-told .given .1) _ _ _))
     (λ c. search needs)
     (λ c. search needs)
     (λ c. search needs)
-    (λ c. (read-fine (c .before .before .before .before .before .before .before .before .before .before .before .before .before .before .before .before .before .before .before .before .before .before .before .before .before .before .args .layout) (now (c .before .before .before .before .before .before .before .before .before .before .before .before .before .before .before .before .before .before .before .before .before .before .before .before .before .before .args .s)) _ _ (c .before .before .before .before .before .before .before .before .before .before .before .before .before .before .before .before .before .before .before .before .before .before .before .before .before .before .args .code) (c .before .before .before .before .before .before .before .before .before .before .before .before .before .before .before .before .judge .result) _ _ (c .before .before .before .before .before .before .before .before .before .before .before .before .before .before .before .before .judge .ensures .0) _ _ _ _ _ _ (c .before .before .before .before .before .before .before .before .before .before .before .before .before .before .a .given .1) _ (rw (← c .before .spoken .ensures) (c .kind-of .ensures)), all-filled (c .before .before .before .before .before .before .before .before .before .before .before .before .before .before .before .before .before .before .before .before .before .before .before .before .before .before .args .layout) (now (c .before .before .before .before .before .before .before .before .before .before .before .before .before .before .before .before .before .before .before .before .before .before .before .before .before .before .args .s)) _ _ (c .before .before .before .before .before .before .before .before .before .before .before .before .before .before .before .before .before .before .before .before .before .before .before .before .before .before .args .code) (c .before .before .before .before .before .before .before .before .before .before .before .before .before .before .before .before .judge .result) _ _ (c .before .before .before .before .before .before .before .before .before .before .before .before .before .before .before .before .judge .ensures .0) _ _ _ _ _ _ (c .before .before .before .before .before .before .before .before .before .before .before .before .before .before .a .given .1) _ _ _ _ _ _ (c .before .before .before .before .before .before .before .before .fill-in .ensures))))
+    (λ c. rw (← c .before .before .before .before .before .before .before .before .before .before .before .before .before .before .before .before .before .before .before .before .slots .ensures) (read-fine (c .before .before .before .before .before .before .before .before .before .before .before .before .before .before .before .before .before .before .before .before .before .before .before .before .before .before .before .before .before .args .layout) (now (c .before .before .before .before .before .before .before .before .before .before .before .before .before .before .before .before .before .before .before .before .before .before .before .before .before .before .before .before .before .args .s)) _ _ (c .before .before .before .before .before .before .before .before .before .before .before .before .before .before .before .before .before .before .before .before .before .before .before .before .before .before .before .before .before .args .code) (c .before .before .before .before .before .before .before .before .before .before .before .before .before .before .before .before .judge .result) _ _ (c .before .before .before .before .before .before .before .before .before .before .before .before .before .before .before .before .judge .ensures .0) _ _ _ _ _ _ (c .before .before .before .before .before .before .before .before .before .before .before .before .before .before .a .given .1) _ (rw (← c .before .spoken .ensures) (c .kind-of .ensures)), all-filled (c .before .before .before .before .before .before .before .before .before .before .before .before .before .before .before .before .before .before .before .before .before .before .before .before .before .before .before .before .before .args .layout) (now (c .before .before .before .before .before .before .before .before .before .before .before .before .before .before .before .before .before .before .before .before .before .before .before .before .before .before .before .before .before .args .s)) _ _ (c .before .before .before .before .before .before .before .before .before .before .before .before .before .before .before .before .before .before .before .before .before .before .before .before .before .before .before .before .before .args .code) (c .before .before .before .before .before .before .before .before .before .before .before .before .before .before .before .before .judge .result) _ _ (c .before .before .before .before .before .before .before .before .before .before .before .before .before .before .before .before .judge .ensures .0) _ _ _ _ _ _ (c .before .before .before .before .before .before .before .before .before .before .before .before .before .before .a .given .1) _ _ _ _ _ _ (c .before .before .before .before .before .before .before .before .fill-in .ensures))))

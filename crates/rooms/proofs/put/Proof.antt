@@ -13,5 +13,5 @@ put-spec =
     (λ c. search needs)
     (λ c. search needs)
     (λ c. search needs)
-    (λ c. put-one (now (c .before .args .out)) (c .before .args .at) (c .before .args .x))
+    (λ c. put-one (now (c .before .args .out)) (c .before .args .at) (c .before .args .x) (c .if1 .taken))
     (λ c. put-past (now (c .before .args .out)) (c .before .args .at) _ (c .if1 .left)))

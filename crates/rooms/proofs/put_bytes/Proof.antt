@@ -18,4 +18,4 @@ put-bytes-spec =
     (λ c κs. search needs)
     (λ c. search needs)
     (λ c. search needs)
-    (λ c. put-whole (now (c .before .before .before .before .before .before .before .before .args .c)) (now (c .before .before .before .before .before .before .before .before .args .out)) (c .before .before .before .before .before .before .before .before .args .at) _ (c .before .before .copy-front2 .ensures)))
+    (λ c. put-whole (now (c .before .before .before .before .before .before .before .before .args .c)) (now (c .before .before .before .before .before .before .before .before .args .out)) (c .before .before .before .before .before .before .before .before .args .at) _ (omega arith) (c .before .before .copy-front2 .ensures)))

@@ -1,0 +1,17 @@
+-- `handshake::parse_daemon_handshake_bytes` meets its contract: what is judged fine fits.
+use borrow.Author.Needs.{needs}
+use Rattle.handshake.proofs.parse_daemon_handshake_bytes.Statement.{statement}
+use Rattle.handshake.proofs.parse_daemon_handshake_bytes.Tie as tie
+use denote.Ref.{now}
+use mathlib.Core.Path.{refl}
+use mathlib.Core.List.{[]}
+use Rattle.handshake.proofs.Filled.{daemon-bytes}
+
+pub parse-daemon-handshake-bytes-spec : {M : Type 1} → statement M
+parse-daemon-handshake-bytes-spec =
+    tie.close
+    (tie.spec
+    (λ c. search needs)
+    (λ c κs. search needs)
+    (λ c. search needs)
+    (λ c. daemon-bytes _ _ _ [] _ (now (c .before .before .before .before .before .before .before .before .args .entries)) _ (c .before .before .before .read-daemon .ensures) refl))
