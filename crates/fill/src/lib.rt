@@ -2,9 +2,8 @@
 // in was judged before. What lies past the end of a room falls away, so that no call asks for anything; who wants entries as numbers alone, or as bytes alone,
 // lends an empty room for the others.
 ghost use mathlib.Core.Path.{_≡_};
-ghost use mathlib.Core.Bool.{Bool};
 ghost use mathlib.Core.List.{List};
-ghost use Prim.Native.Nat.{ℕ, _+_, _≤_, _<_};
+ghost use Prim.Native.Nat.{ℕ, _+_, _≤_};
 ghost use lib.ListN.{length, take, drop};
 ghost use lib.Seq.{sets};
 ghost use Rattle.layouts.specs.Shape.{Tree, kept, frames, field};

@@ -1,6 +1,6 @@
 -- Demand 1, of what the two calls return: a refusal changes no lent memory, and a success writes only what it reports. Each theorem is about `Post`, the
 -- contract as Rattle reads it off the source.
-use Prim.Native.Nat.{ℕ, _*_, _/_}
+use Prim.Native.Nat.{_*_, _/_}
 use mathlib.Core.Path.{_≡_}
 use mathlib.Core.List.{[]}
 use lib.ListN.{length, drop}

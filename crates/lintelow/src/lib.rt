@@ -13,7 +13,7 @@ ghost use Rattle.layouts.specs.Stderr.{stderrLoop, readStderrLoop, readStderrWi
 ghost use Rattle.layouts.specs.Handshake.{hear, heardEntries, handshake, daemonHandshake, parseHandshake, parseDaemonHandshake};
 ghost use Rattle.output.specs.Numbers.{bytesOf};
 ghost use Rattle.judge.specs.Judged.{answerAs};
-ghost use Rattle.protocol_bytes.specs.Bytes.{argumentsRead, replyRead, bytesAfter};
+ghost use Rattle.protocol.specs.Bytes.{argumentsRead, replyRead, bytesAfter};
 ghost use Rattle.skips.specs.Skips.{stringSkipped, resultSkipped};
 ghost use Rattle.block.specs.Block.{guarded, numberOf, blockAfter};
 
@@ -40,7 +40,7 @@ pub extern "C" fn lintelow_read_op_args(
     }
     let mut numbers = [0u64; 12];
     let mut counts = [0u64; 3];
-    let said = protocol_bytes::read_op_args(
+    let said = protocol::read_op_args_bytes(
         op,
         major,
         minor,
@@ -73,7 +73,7 @@ pub extern "C" fn lintelow_read_daemon_result(
     }
     let mut numbers = [0u64; 12];
     let mut counts = [0u64; 3];
-    let said = protocol_bytes::read_daemon_result(
+    let said = protocol::read_daemon_result_bytes(
         op,
         major,
         minor,

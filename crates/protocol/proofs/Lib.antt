@@ -1,3 +1,5 @@
+-- `Unique` and `Demands` are what docs/PROOFS.md cites; the others serve the functions' proofs.
+pub mod Read
 pub mod Rows
 pub mod Unique
 pub mod Demands

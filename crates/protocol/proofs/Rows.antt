@@ -8,11 +8,11 @@ use Rattle.layouts.specs.declared.Refusal.{Refusal}
 use Rattle.layouts.specs.Primitive.{Version, Result, ok, refused}
 use Rattle.layouts.specs.Refusal.{plain, refusedBy}
 use Rattle.layouts.specs.Shape.{asNumber, Tree, ask, stop, fail, layout}
-use Rattle.layouts.specs.Pieces.{Pieces, run, skipOf}
+use Rattle.layouts.specs.Pieces.{run, skipOf}
 use Rattle.layouts.specs.Record.{blank}
-use Rattle.layouts.specs.Judge.{Ended, judgeOf, entriesOf, payloadOf, lentAfter}
+use Rattle.layouts.specs.Judge.{Ended, judgeOf, entriesOf}
 use Rattle.layouts.specs.Operations.{Kinds, kindOf}
-use Rattle.layouts.specs.Calls.{Answer, peekNumber, readOf, entriesAfter, payloadAfter}
+use Rattle.layouts.specs.Calls.{Answer, peekNumber, readOf}
 use Rattle.number.specs.declared.Number.{Number}
 use Rattle.number.specs.declared.Number.the-variants.{Value, Short}
 use Rattle.pieces.specs.Pieces.{numRead}
@@ -22,11 +22,10 @@ use Rattle.items.specs.Items.{versionOf, firstOf, layoutTree, piecesOf}
 use Rattle.judge.specs.declared.Outcome.the-variants.{Fine}
 use Rattle.judge.specs.declared.Said.{Said}
 use Rattle.judge.specs.declared.Said.the-variants as S
-use Rattle.judge.specs.declared.Answer as C
 use Rattle.judge.specs.Judged.{answerOf, answerAs, endedAs, windowAfter}
 use Rattle.protocol.specs.declared.Arguments.{Arguments}
 use Rattle.reading.specs.Reading.{readBy, answeredAs}
-use Rattle.reading.proofs.Filled.{answered-by, lent-by, refused-is, fine-is, first-in}
+use Rattle.reading.proofs.Filled.{answered-by, refused-is, fine-is, first-in}
 use Rattle.protocol.specs.Protocol.{argumentsAs}
 
 module _ (v : Version) (k : Kinds) (slots room : ℕ) (s : List ℕ) (t : Tree) where
@@ -35,12 +34,6 @@ module _ (v : Version) (k : Kinds) (slots room : ℕ) (s : List ℕ) (t : Tree) 
     pub unknown-is : readOf v k slots room s t ≡ refused 9 0 0
     unfolding run judgeOf
     unknown-is = rw e
-
-    pub unknown-answer : (a : C.Answer) (r : Refusal) → a ≡ answerAs (refusedBy r) → r ≡ plain 9 0 → a ≡ answerAs (readOf v k slots room s t)
-    unknown-answer a r q p = q ∙ ap (λ (x : Refusal). answerAs (refusedBy x)) p ∙ ap answerAs (sym unknown-is)
-
-    pub unknown-lent : (new lent : List ℕ) → lent ≡ lentAfter (readOf v k slots room s t) new lent
-    unknown-lent new lent = ap (λ (o : Result Answer). lentAfter o new lent) (sym unknown-is)
 
     pub unknown-skip : (r : Refusal) → r ≡ plain 9 0 → refusedBy r ≡ skipOf (run t s 0)
     unfolding run skipOf
@@ -60,23 +53,8 @@ module _ (v : Version) (k : Kinds) (slots room : ℕ) (s : List ℕ) (t : Tree) 
           ap (λ (x : Version). answeredAs x c (readBy l s slots room)) p ∙ ap (λ (x : Tree). answeredAs v c (judgeOf s slots room blank (run x s 0))) tree-is
           ∙ answered-by v k c q (judgeOf s slots room blank (run t s 0))
 
-      pub row-answer : (a : C.Answer) → a ≡ answerAs (answeredAs (versionOf l) c (readBy l s slots room)) → a ≡ answerAs (readOf v k slots room s t)
-      row-answer a h = h ∙ ap answerAs row-is
-
       pub row-arguments : (a : Arguments) → a ≡ argumentsAs (answeredAs (versionOf l) c (readBy l s slots room)) (entriesOf (piecesOf l s 0)) → a ≡ argumentsAs (readOf v k slots room s t) (entriesOf (run t s 0))
       row-arguments a h = h ∙ ap (λ (o : Result Answer). argumentsAs o (entriesOf (piecesOf l s 0))) row-is ∙ ap (λ (x : Tree). argumentsAs (readOf v k slots room s t) (entriesOf (run x s 0))) tree-is
-
-      module _ (lent out : List ℕ) where
-        pub row-lent : (f : Pieces → List ℕ) → out ≡ lentAfter (readBy l s slots room) (f (piecesOf l s 0)) lent → out ≡ lentAfter (readOf v k slots room s t) (f (run t s 0)) lent
-        row-lent f h =
-            h ∙ ap (λ (x : Tree). lentAfter (judgeOf s slots room blank (run x s 0)) (f (run x s 0)) lent) tree-is ∙
-            lent-by v k c q (judgeOf s slots room blank (run t s 0)) (f (run t s 0)) lent
-
-        pub row-entries : out ≡ lentAfter (readBy l s slots room) (entriesOf (piecesOf l s 0)) lent → out ≡ entriesAfter (readOf v k slots room s t) (run t s 0) lent
-        row-entries h = row-lent entriesOf h
-
-        pub row-payload : out ≡ lentAfter (readBy l s slots room) (payloadOf s (piecesOf l s 0)) lent → out ≡ payloadAfter (readOf v k slots room s t) s (run t s 0) lent
-        row-payload h = row-lent (payloadOf s) h
 
 -- ---- skipped arguments: the one entry is the first of the window
 module _ (l c : ℕ) (s : List ℕ) where

@@ -9,10 +9,11 @@ ghost use Rattle.layouts.specs.Pieces.{run, skipOf};
 ghost use Rattle.layouts.specs.Judge.{entriesOf};
 ghost use Rattle.layouts.specs.Calls.{argumentsTree, skippedTree, replyTree, skipOpArgs, skipDaemonResult, entriesAfter, payloadAfter};
 ghost use Rattle.items.specs.Items.{versionOf, piecesOf};
-ghost use Rattle.judge.specs.Judged.{answerAs};
+ghost use Rattle.judge.specs.Judged.{answerOf, answerAs};
 ghost use Rattle.reading.specs.Reading.{readBy, answeredAs};
 ghost use Rattle.skip.specs.Skipped.{skipped};
 ghost use Rattle.protocol.specs.Protocol.{argumentsRead, replyRead, argumentsAs};
+ghost use Rattle.protocol.specs.Bytes as B;
 use items::Brief;
 use items::Layout;
 use judge::Answer;
@@ -45,17 +46,50 @@ pub fn read_op_args(
     ensures entries { λ r. ⌜ now (entries .exit) ≡ entriesAfter (argumentsRead op (version major minor) (now (s .entry)) (now (entries .entry)) (now (payload .entry))) (run (argumentsTree op (version major minor)) (now (s .entry)) 0) (now (entries .entry)) ⌝ }
     ensures payload { λ r. ⌜ now (payload .exit) ≡ payloadAfter (argumentsRead op (version major minor) (now (s .entry)) (now (entries .entry)) (now (payload .entry))) (now (s .entry)) (run (argumentsTree op (version major minor)) (now (s .entry)) 0) (now (payload .entry)) ⌝ }
 {
-    let f = operations::arguments(op);
-    match f {
-        Shape::Unknown => judge::refused_answer(layouts::refuse(layouts::UNKNOWN_OPERATION, 0)),
-        Shape::At { first, kind } => reading::read_words(
-            s,
-            items::layout(major, minor, first),
-            kind,
-            entries,
-            payload,
-        ),
-    }
+    let mut none: [u8; 0] = [];
+    let mut numbers = [0u64; 12];
+    let mut counts = [0u64; 3];
+    let said = shapes::read_arguments(
+        op,
+        major,
+        minor,
+        s,
+        entries,
+        &mut none,
+        payload,
+        &mut numbers,
+        &mut counts,
+    );
+    judge::answer_of(said, numbers, counts)
+}
+
+// The same with entries of sixteen bytes, and with the numbers and counts beside what is said.
+pub fn read_op_args_bytes(
+    op: u64,
+    major: u16,
+    minor: u8,
+    s: &[u8],
+    entries: &mut [u8],
+    payload: &mut [u8],
+    numbers: &mut [u64; 12],
+    counts: &mut [u64; 3],
+) -> Said
+    ensures answer { λ r. ⌜ answerOf r (now (numbers .exit)) (now (counts .exit)) ≡ answerAs (B.argumentsRead op (version major minor) (now (s .entry)) (now (entries .entry)) (now (payload .entry))) ⌝ }
+    ensures entries { λ r. ⌜ now (entries .exit) ≡ B.bytesAfter (B.argumentsRead op (version major minor) (now (s .entry)) (now (entries .entry)) (now (payload .entry))) (run (argumentsTree op (version major minor)) (now (s .entry)) 0) (now (entries .entry)) ⌝ }
+    ensures payload { λ r. ⌜ now (payload .exit) ≡ payloadAfter (B.argumentsRead op (version major minor) (now (s .entry)) (now (entries .entry)) (now (payload .entry))) (now (s .entry)) (run (argumentsTree op (version major minor)) (now (s .entry)) 0) (now (payload .entry)) ⌝ }
+{
+    let mut none: [u64; 0] = [];
+    shapes::read_arguments(
+        op,
+        major,
+        minor,
+        s,
+        &mut none,
+        entries,
+        payload,
+        numbers,
+        counts,
+    )
 }
 
 fn refused_arguments(refusal: Refusal) -> Arguments
@@ -149,17 +183,50 @@ pub fn read_daemon_result(
     ensures entries { λ r. ⌜ now (entries .exit) ≡ entriesAfter (replyRead op (version major minor) (now (s .entry)) (now (entries .entry)) (now (payload .entry))) (run (replyTree op (version major minor)) (now (s .entry)) 0) (now (entries .entry)) ⌝ }
     ensures payload { λ r. ⌜ now (payload .exit) ≡ payloadAfter (replyRead op (version major minor) (now (s .entry)) (now (entries .entry)) (now (payload .entry))) (now (s .entry)) (run (replyTree op (version major minor)) (now (s .entry)) 0) (now (payload .entry)) ⌝ }
 {
-    let f = operations::reply(op);
-    match f {
-        Shape::Unknown => judge::refused_answer(layouts::refuse(layouts::UNKNOWN_OPERATION, 0)),
-        Shape::At { first, kind } => reading::read_words(
-            s,
-            items::layout(major, minor, first),
-            kind,
-            entries,
-            payload,
-        ),
-    }
+    let mut none: [u8; 0] = [];
+    let mut numbers = [0u64; 12];
+    let mut counts = [0u64; 3];
+    let said = shapes::read_reply(
+        op,
+        major,
+        minor,
+        s,
+        entries,
+        &mut none,
+        payload,
+        &mut numbers,
+        &mut counts,
+    );
+    judge::answer_of(said, numbers, counts)
+}
+
+// The same with entries of sixteen bytes, and with the numbers and counts beside what is said.
+pub fn read_daemon_result_bytes(
+    op: u64,
+    major: u16,
+    minor: u8,
+    s: &[u8],
+    entries: &mut [u8],
+    payload: &mut [u8],
+    numbers: &mut [u64; 12],
+    counts: &mut [u64; 3],
+) -> Said
+    ensures answer { λ r. ⌜ answerOf r (now (numbers .exit)) (now (counts .exit)) ≡ answerAs (B.replyRead op (version major minor) (now (s .entry)) (now (entries .entry)) (now (payload .entry))) ⌝ }
+    ensures entries { λ r. ⌜ now (entries .exit) ≡ B.bytesAfter (B.replyRead op (version major minor) (now (s .entry)) (now (entries .entry)) (now (payload .entry))) (run (replyTree op (version major minor)) (now (s .entry)) 0) (now (entries .entry)) ⌝ }
+    ensures payload { λ r. ⌜ now (payload .exit) ≡ payloadAfter (B.replyRead op (version major minor) (now (s .entry)) (now (entries .entry)) (now (payload .entry))) (now (s .entry)) (run (replyTree op (version major minor)) (now (s .entry)) 0) (now (payload .entry)) ⌝ }
+{
+    let mut none: [u64; 0] = [];
+    shapes::read_reply(
+        op,
+        major,
+        minor,
+        s,
+        &mut none,
+        entries,
+        payload,
+        numbers,
+        counts,
+    )
 }
 
 // The layout at the start of the stream; one without fields, or of one number, needs no fold.

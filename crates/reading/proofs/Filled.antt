@@ -1,7 +1,7 @@
 -- A judged layout, filled: what it reports fits, and is what `layouts` says of lent memory.
 use Prim.Native.Nat.{ℕ, _+_, _*_, _/_, _≤_, min}
 use mathlib.Core.Path.{_≡_, refl, sym, _∙_, ap, subst}
-use mathlib.Core.List.{List, [], _∷_, _++_, append-nil}
+use mathlib.Core.List.{List, [], _∷_, _++_}
 use mathlib.Core.Bool.{Bool}
 use native.Mathlib.Omega.{arith}
 use lib.ListN.{length, getD, take, drop, replicate, length-take}
@@ -12,10 +12,10 @@ use Rattle.layouts.specs.Primitive.{Version, Result, ok, refused}
 use Rattle.layouts.specs.Refusal.{refusedBy}
 use Rattle.layouts.specs.Pieces.{Pieces, totalOf}
 use Rattle.layouts.specs.Record.{blank}
-use Rattle.layouts.specs.Judge.{Ended, judgeOf, entriesOf, payloadOf, lentAfter}
+use Rattle.layouts.specs.Judge.{Ended, entriesOf, payloadOf}
 use Rattle.layouts.specs.Soft.{keptOf}
 use Rattle.layouts.specs.Operations.{Kinds, kindOf}
-use Rattle.layouts.specs.Calls.{Answer, answered}
+use Rattle.layouts.specs.Calls.{answered}
 use Rattle.layouts.proofs.Judge.{Read, judge-read, record-room, entries-length, payload-length}
 use Rattle.layouts.proofs.Placed.{run-placed}
 use Rattle.table.specs.Table.{kindNumbered}
@@ -23,13 +23,10 @@ use Rattle.items.specs.declared.Brief.{Brief}
 use Rattle.items.specs.Items.{versionOf, layoutTree, piecesOf, Briefly}
 use Rattle.judge.specs.declared.Said.{Said}
 use Rattle.judge.specs.declared.Said.the-variants as S
-use Rattle.judge.specs.declared.Answer as C
 use Rattle.judge.specs.Judged.{gathered, answerOf, answerAs, endedAs, inWindow, windowAfter}
 use Rattle.judge.proofs.Answers.{said-fine, said-refused, ended-fine, ended-refused}
 use Rattle.output.specs.Numbers.{bytesOf}
-use Rattle.output.proofs.Numbers.{bytes-length}
-use Rattle.rooms.specs.Rooms.{slotsIn, filledAfter}
-use Rattle.rooms.proofs.Laws.{fitting}
+use Rattle.rooms.specs.Rooms.{filledAfter}
 use Rattle.reading.specs.Reading.{readBy, answeredAs, Planned}
 
 none-there : (xs : List ℕ) → length xs ≡ 0 → xs ≡ []
@@ -74,18 +71,6 @@ module _ (l : ℕ) (s : List ℕ) (slots room : ℕ) (c : ℕ) where
   module _ (x : Ended) (e : said ≡ ok x) where
     reads : Read slots room blank (piecesOf l s 0) x
     reads = judge-read s slots room blank (piecesOf l s 0) x e
-
-    pub strings-fit : length (entriesOf (piecesOf l s 0)) ≤ 2 * slots
-    strings-fit =
-        let g = reads .fits (omega arith) (omega arith) in
-        let n = entries-length (piecesOf l s 0) in
-        omega (arith, g)
-
-    pub payload-fits : length (payloadOf s (piecesOf l s 0)) ≤ room
-    payload-fits =
-        let g = reads .fits (omega arith) (omega arith) in
-        let n = payload-length s (run-placed (layoutTree l) s 0 (omega arith)) in
-        omega (arith, g)
 
     counted : length (entriesOf (piecesOf l s 0)) ≡ 2 * (x .found .entries)
     counted =
@@ -141,46 +126,6 @@ module _ (l : ℕ) (s : List ℕ) (slots room : ℕ) (c : ℕ) where
           → Lent words bytes payload ws bs ps
       all-filled words bytes payload ws bs ps h = (lent-filled _ words ws (h .0), (lent-filled _ bytes bs (h .1 .0), lent-filled _ payload ps (h .1 .1)))
 
--- ---- with one of the two rooms for entries
-module _ (l : ℕ) (s payload : List ℕ) (c : ℕ) where
-  abbrev all : ℕ → Result Ended
-  all slots = readBy l s slots (length payload)
-
-  module _ (words : List ℕ) where
-    words-only : slotsIn words [] ≡ length words / 2
-    words-only = omega arith
-
-    pub words-answer : (a : C.Answer) → a ≡ answerAs (answeredAs (versionOf l) c (all (slotsIn words []))) → a ≡ answerAs (answeredAs (versionOf l) c (all (length words / 2)))
-    words-answer a h = h ∙ ap (λ (n : ℕ). answerAs (answeredAs (versionOf l) c (all n))) words-only
-
-    pub words-lent : (out : List ℕ) → out ≡ filledAfter (all (slotsIn words [])) (entriesOf (piecesOf l s 0)) words → out ≡ lentAfter (all (length words / 2)) (entriesOf (piecesOf l s 0)) words
-    words-lent out h =
-        let n = length words / 2 in
-        h ∙ ap (λ (n : ℕ). filledAfter (all n) (entriesOf (piecesOf l s 0)) words) words-only ∙
-        fitting (all n) _ words (λ x q. let f = strings-fit l s n (length payload) 0 x q in omega arith)
-
-    pub words-payload : (out : List ℕ) → out ≡ filledAfter (all (slotsIn words [])) (payloadOf s (piecesOf l s 0)) payload → out ≡ lentAfter (all (length words / 2)) (payloadOf s (piecesOf l s 0)) payload
-    words-payload out h =
-        h ∙ ap (λ (n : ℕ). filledAfter (all n) (payloadOf s (piecesOf l s 0)) payload) words-only ∙ fitting (all (length words / 2)) _ payload (λ x q. payload-fits l s (length words / 2) (length payload) 0 x q)
-
-  module _ (bytes : List ℕ) where
-    bytes-only : slotsIn [] bytes ≡ length bytes / 16
-    bytes-only = omega arith
-
-    pub bytes-answer : (a : C.Answer) → a ≡ answerAs (answeredAs (versionOf l) c (all (slotsIn [] bytes))) → a ≡ answerAs (answeredAs (versionOf l) c (all (length bytes / 16)))
-    bytes-answer a h = h ∙ ap (λ (n : ℕ). answerAs (answeredAs (versionOf l) c (all n))) bytes-only
-
-    pub bytes-lent : (out : List ℕ) → out ≡ filledAfter (all (slotsIn [] bytes)) (bytesOf (entriesOf (piecesOf l s 0))) bytes → out ≡ lentAfter (all (length bytes / 16)) (bytesOf (entriesOf (piecesOf l s 0))) bytes
-    bytes-lent out h =
-        let n = length bytes / 16 in
-        let m = bytes-length (entriesOf (piecesOf l s 0)) in
-        h ∙ ap (λ (n : ℕ). filledAfter (all n) (bytesOf (entriesOf (piecesOf l s 0))) bytes) bytes-only ∙
-        fitting (all n) _ bytes (λ x q. let f = strings-fit l s n (length payload) 0 x q in omega arith)
-
-    pub bytes-payload : (out : List ℕ) → out ≡ filledAfter (all (slotsIn [] bytes)) (payloadOf s (piecesOf l s 0)) payload → out ≡ lentAfter (all (length bytes / 16)) (payloadOf s (piecesOf l s 0)) payload
-    bytes-payload out h =
-        h ∙ ap (λ (n : ℕ). filledAfter (all n) (payloadOf s (piecesOf l s 0)) payload) bytes-only ∙ fitting (all (length bytes / 16)) _ payload (λ x q. payload-fits l s (length bytes / 16) (length payload) 0 x q)
-
 -- ---- the filler
 module _ (w : List ℕ) (entries total : ℕ) (s : List ℕ) (p : Pieces) (h : Planned w entries total s p) (a : total ≤ 0) (b : entries ≤ 8) where
   pub from-window : (f : List ℕ → List ℕ) (lent out : List ℕ) → out ≡ sets lent 0 (f (take (2 * min entries (length w / 2)) w)) → out ≡ sets lent 0 (f (entriesOf p))
@@ -201,7 +146,3 @@ module _ (v : Version) (k : Kinds) (c : ℕ) (e : (b : Bool) → kindOf v b k �
   pub answered-by : (o : Result Ended) → answeredAs v c o ≡ answered v k o
   answered-by (ok x) = rw (e (x .found .present))
   answered-by (refused which place stream) = refl
-
-  pub lent-by : (o : Result Ended) (new lent : List ℕ) → lentAfter o new lent ≡ lentAfter (answered v k o) new lent
-  lent-by (ok x) new lent = refl
-  lent-by (refused which place stream) new lent = refl

@@ -1,17 +1,15 @@
 // A layout from the start of the stream, by the row of an operation: judged first, without a write to the rooms, and only then filled in, so a refusal changes
 // no lent memory. Entries go into a room of numbers or into one of bytes: the other one is lent empty.
 ghost use mathlib.Core.Path.{_≡_};
-ghost use Prim.Native.Nat.{_/_};
 ghost use lib.ListN.{length};
 ghost use lib.Seq.{sets};
-ghost use Rattle.layouts.specs.Judge.{entriesOf, payloadOf, lentAfter};
+ghost use Rattle.layouts.specs.Judge.{entriesOf, payloadOf};
 ghost use Rattle.items.specs.Items.{versionOf, piecesOf};
 ghost use Rattle.output.specs.Numbers.{bytesOf};
 ghost use Rattle.judge.specs.Judged.{answerOf, answerAs};
 ghost use Rattle.reading.specs.Reading.{readBy, answeredAs, Planned};
 ghost use Rattle.rooms.specs.Rooms.{slotsIn, filledAfter};
 use items::Layout;
-use judge::Answer;
 use judge::Said;
 
 // Where the window has all entries, and there is no payload, the layout is not gone through again.
@@ -42,7 +40,7 @@ fn fill_in(
 }
 
 // The kind of the answer is by its code. What does not fit into a room falls away.
-fn read(
+pub fn read(
     s: &[u8],
     layout: Layout,
     code: u8,
@@ -95,59 +93,4 @@ fn read(
             }
         }
     }
-}
-
-// With entries of sixteen bytes.
-pub fn read_bytes(
-    s: &[u8],
-    layout: Layout,
-    code: u8,
-    entries: &mut [u8],
-    payload: &mut [u8],
-    numbers: &mut [u64; 12],
-    counts: &mut [u64; 3],
-) -> Said
-    ensures answer { λ r. ⌜ answerOf r (now (numbers .exit)) (now (counts .exit)) ≡ answerAs (answeredAs (versionOf layout) code (readBy layout (now (s .entry)) (length (now (entries .entry)) / 16) (length (now (payload .entry))))) ⌝ }
-    ensures entries { λ r. ⌜ now (entries .exit) ≡ lentAfter (readBy layout (now (s .entry)) (length (now (entries .entry)) / 16) (length (now (payload .entry)))) (bytesOf (entriesOf (piecesOf layout (now (s .entry)) 0))) (now (entries .entry)) ⌝ }
-    ensures payload { λ r. ⌜ now (payload .exit) ≡ lentAfter (readBy layout (now (s .entry)) (length (now (entries .entry)) / 16) (length (now (payload .entry)))) (payloadOf (now (s .entry)) (piecesOf layout (now (s .entry)) 0)) (now (payload .entry)) ⌝ }
-{
-    let mut none: [u64; 0] = [];
-    read(
-        s,
-        layout,
-        code,
-        &mut none,
-        entries,
-        payload,
-        numbers,
-        counts,
-    )
-}
-
-// With entries of two numbers, and a whole answer.
-pub fn read_words(
-    s: &[u8],
-    layout: Layout,
-    code: u8,
-    entries: &mut [u64],
-    payload: &mut [u8],
-) -> Answer
-    ensures answer { λ r. ⌜ r ≡ answerAs (answeredAs (versionOf layout) code (readBy layout (now (s .entry)) (length (now (entries .entry)) / 2) (length (now (payload .entry))))) ⌝ }
-    ensures entries { λ r. ⌜ now (entries .exit) ≡ lentAfter (readBy layout (now (s .entry)) (length (now (entries .entry)) / 2) (length (now (payload .entry)))) (entriesOf (piecesOf layout (now (s .entry)) 0)) (now (entries .entry)) ⌝ }
-    ensures payload { λ r. ⌜ now (payload .exit) ≡ lentAfter (readBy layout (now (s .entry)) (length (now (entries .entry)) / 2) (length (now (payload .entry)))) (payloadOf (now (s .entry)) (piecesOf layout (now (s .entry)) 0)) (now (payload .entry)) ⌝ }
-{
-    let mut none: [u8; 0] = [];
-    let mut numbers = [0u64; 12];
-    let mut counts = [0u64; 3];
-    let said = read(
-        s,
-        layout,
-        code,
-        entries,
-        &mut none,
-        payload,
-        &mut numbers,
-        &mut counts,
-    );
-    judge::answer_of(said, numbers, counts)
 }

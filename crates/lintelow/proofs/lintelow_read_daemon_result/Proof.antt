@@ -9,8 +9,8 @@ returns : tie.Need-returns
 returns c = (short-number _ _ (c .if1 .taken), (short-block _ _ (c .if1 .taken), (short-lent _ _ _ _ (c .if1 .taken), short-lent _ _ _ _ (c .if1 .taken))))
 
 returns-2 : tie.Need-returns-2
-returns-2 c = let e = c .before .before .before .answer-of .ensures ∙ c .before .before .before .before .before .before .before .before .before .read-daemon-result .ensures .0 in
-    (told-number _ _ _ _ e (c .before .before .put .ensures .0), (told-block _ _ _ _ e (c .before .before .put .ensures .1), (long-lent _ _ _ _ (c .before .before .before .before .before .before .before .before .before .before .before .before .before .before .if1 .left) _ (c .before .before .before .before .before .before .before .before .before .read-daemon-result .ensures .1 .0), long-lent _ _ _ _ (c .before .before .before .before .before .before .before .before .before .before .before .before .before .before .if1 .left) _ (c .before .before .before .before .before .before .before .before .before .read-daemon-result .ensures .1 .1))))
+returns-2 c = let e = c .before .before .before .answer-of .ensures ∙ c .before .before .before .before .before .before .before .before .before .read-daemon-result-bytes .ensures .0 in
+    (told-number _ _ _ _ e (c .before .before .put .ensures .0), (told-block _ _ _ _ e (c .before .before .put .ensures .1), (long-lent _ _ _ _ (c .before .before .before .before .before .before .before .before .before .before .before .before .before .before .if1 .left) _ (c .before .before .before .before .before .before .before .before .before .read-daemon-result-bytes .ensures .1 .0), long-lent _ _ _ _ (c .before .before .before .before .before .before .before .before .before .before .before .before .before .before .if1 .left) _ (c .before .before .before .before .before .before .before .before .before .read-daemon-result-bytes .ensures .1 .1))))
 
 pub lintelow-read-daemon-result-spec : {M : Type 1} → statement M
 lintelow-read-daemon-result-spec =

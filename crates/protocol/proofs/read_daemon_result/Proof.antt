@@ -1,51 +1,20 @@
--- `protocol::read_daemon_result` meets its contract: by the shape of the operation.
+-- `protocol::read_daemon_result` meets its contract: what is judged fine fits.
 use borrow.Author.Needs.{needs}
 use Rattle.protocol.proofs.read_daemon_result.Statement.{statement}
 use Rattle.protocol.proofs.read_daemon_result.Tie as tie
 use denote.Ref.{now}
-use Prim.Native.Nat.{_/_}
-use lib.ListN.{length}
+use mathlib.Core.Path.{refl, _∙_}
+use mathlib.Core.List.{[]}
 use Rattle.layouts.specs.Primitive.{version}
-use Rattle.layouts.specs.Operations.{Operation, find}
-use Rattle.layouts.specs.Calls.{kindBy, readDaemonResult}
-use Rattle.operations.proofs.Shapes.{reply-says, shape-refuses}
-use Rattle.protocol.proofs.Rows.{unknown-answer, unknown-lent, row-answer, row-entries, row-payload}
-
-returns : tie.Need-returns
-unfolding readDaemonResult
-returns c =
-    let a = c .before .before .before .before .before .before .before .before .args in
-    let v = version (a .major) (a .minor) in
-    let k = kindBy (find (a .op)) (λ (o : Operation). o .replyKind) in
-    let e = shape-refuses (a .op) _ _ _ (c .before .before .before .before .reply .ensures) (c .before .before .enum-told .given .1) .reply v in
-    let slots = length (now (a .entries)) / 2 in
-    let room = length (now (a .payload)) in
-    (unknown-answer v k slots room (now (a .s)) _ e _ _ (c .refused-answer .ensures) (c .before .refuse .ensures), (unknown-lent v k slots room (now (a .s)) _ e _ _, unknown-lent v k slots room (now (a .s)) _ e _ _))
-
-returns-2 : tie.Need-returns-2
-unfolding readDaemonResult
-returns-2 c =
-    let a = c .before .before .before .before .before .before .before .before .before .before .before .before .before .before .before .args in
-    let g = c .before .before .before .before .before .before .before .layout in
-    let v = version (a .major) (a .minor) in
-    let k = kindBy (find (a .op)) (λ (o : Operation). o .replyKind) in
-    let y = reply-says (a .op) _ _ _ (c .before .before .before .before .before .before .before .before .before .before .before .reply .ensures) (c .before .before .before .before .before .before .before .before .before .f .given .1) in
-    let slots = length (now (a .entries)) / 2 in
-    let room = length (now (a .payload)) in
-    (row-answer v k slots room (now (a .s)) _ _ _ (g .ensures .0) (g .ensures .1) (y .tree v) _ (y .kind v) _ (c .before .before .before .before .read-words .ensures .0), (row-entries v k slots room (now (a .s)) _ _ _ (g .ensures .0) (g .ensures .1) (y .tree v) _ (y .kind v) _ _ (c .before .before .before .before .read-words .ensures .1 .0), row-payload v k slots room (now (a .s)) _ _ _ (g .ensures .0) (g .ensures .1) (y .tree v) _ (y .kind v) _ _ (c .before .before .before .before .read-words .ensures .1 .1)))
+use Rattle.protocol.proofs.Read.{reply-words}
 
 pub read-daemon-result-spec : {M : Type 1} → statement M
 read-daemon-result-spec =
     tie.close
     (tie.spec
-    (λ c κs. search needs)
     (λ c. search needs)
     (λ c κs. search needs)
     (λ c κs. search needs)
     (λ c. search needs)
-    (λ c κs. search needs)
-    (λ c κs. search needs)
-    returns
     (λ c. search needs)
-    (λ c. search needs)
-    returns-2)
+    (λ c. reply-words _ (version (c .before .before .before .before .before .before .before .before .before .before .before .before .before .before .before .args .major) (c .before .before .before .before .before .before .before .before .before .before .before .before .before .before .before .args .minor)) (now (c .before .before .before .before .before .before .before .before .before .before .before .before .before .before .before .args .s)) (now (c .before .before .before .before .before .before .before .before .before .before .before .before .before .before .before .args .entries)) [] (now (c .before .before .before .before .before .before .before .before .before .before .before .before .before .before .before .args .payload)) _ _ _ _ (c .answer-of .ensures ∙ c .before .before .before .before .before .before .read-reply .ensures .0, c .before .before .before .before .before .before .read-reply .ensures .1) refl))

@@ -1,10 +1,10 @@
--- `protocol_bytes::read_brief` meets its contract: nothing, a number, or neither.
+-- `shapes::read_brief` meets its contract: nothing, a number, or neither.
 use borrow.Author.Needs.{needs}
-use Rattle.protocol_bytes.proofs.read_brief.Statement.{statement}
-use Rattle.protocol_bytes.proofs.read_brief.Tie as tie
+use Rattle.shapes.proofs.read_brief.Statement.{statement}
+use Rattle.shapes.proofs.read_brief.Tie as tie
 use denote.Ref.{now}
 use Rattle.reading.proofs.Filled.{brief-is}
-use Rattle.protocol_bytes.proofs.Brief.{nothing-there, number-there}
+use Rattle.shapes.proofs.Brief.{nothing-there, number-there}
 
 pub read-brief-spec : {M : Type 1} → statement M
 read-brief-spec =

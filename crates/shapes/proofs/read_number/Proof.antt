@@ -1,9 +1,9 @@
--- `protocol_bytes::read_number` meets its contract: a number, or none.
+-- `shapes::read_number` meets its contract: a number, or none.
 use borrow.Author.Needs.{needs}
-use Rattle.protocol_bytes.proofs.read_number.Statement.{statement}
-use Rattle.protocol_bytes.proofs.read_number.Tie as tie
+use Rattle.shapes.proofs.read_number.Statement.{statement}
+use Rattle.shapes.proofs.read_number.Tie as tie
 use denote.Ref.{now}
-use Rattle.protocol_bytes.proofs.Brief.{short-said, number-said}
+use Rattle.shapes.proofs.Brief.{short-said, number-said}
 
 pub read-number-spec : {M : Type 1} → statement M
 read-number-spec =

@@ -1,15 +1,19 @@
-// The readers of `protocol`, with entries of sixteen bytes.
+// A shape of an operation, read from the start of the stream: a layout in brief, or judged and filled in.
 ghost use mathlib.Core.Path.{_≡_};
 ghost use mathlib.Core.List.{List};
 ghost use Prim.Native.Nat.{ℕ};
+ghost use lib.ListN.{length};
 ghost use Rattle.layouts.specs.Primitive.{version};
-ghost use Rattle.layouts.specs.Pieces.{run};
+ghost use Rattle.layouts.specs.Judge.{entriesOf, payloadOf};
 ghost use Rattle.items.specs.Items.{versionOf, layoutTree, Briefly};
 ghost use Rattle.items.specs.declared.Brief.the-variants as B;
-ghost use Rattle.reading.specs.Reading.{readBy, answeredAs};
-ghost use Rattle.layouts.specs.Calls.{argumentsTree, replyTree, payloadAfter};
+ghost use Rattle.output.specs.Numbers.{bytesOf};
 ghost use Rattle.judge.specs.Judged.{answerOf, answerAs};
-ghost use Rattle.protocol_bytes.specs.Bytes.{argumentsRead, replyRead, bytesAfter, ReadInBrief};
+ghost use Rattle.table.specs.Table.{rowFor};
+ghost use Rattle.operations.specs.Rows.{argumentsOf, replyOf};
+ghost use Rattle.rooms.specs.Rooms.{slotsIn, filledAfter};
+ghost use Rattle.reading.specs.Reading.{readBy, answeredAs};
+ghost use Rattle.shapes.specs.Shapes.{shapePieces, shapeRead, ReadInBrief};
 use items::Brief;
 use items::Layout;
 use judge::Said;
@@ -86,22 +90,25 @@ fn read_brief(
     }
 }
 
-pub fn read_op_args(
+// An unknown operation is refused before any byte. The same lines stand in both: LLVM puts what has one caller into it, and so a short call is no call.
+pub fn read_arguments(
     op: u64,
     major: u16,
     minor: u8,
     s: &[u8],
-    entries: &mut [u8],
+    words: &mut [u64],
+    bytes: &mut [u8],
     payload: &mut [u8],
     numbers: &mut [u64; 12],
     counts: &mut [u64; 3],
 ) -> Said
-    ensures answer { λ r. ⌜ answerOf r (now (numbers .exit)) (now (counts .exit)) ≡ answerAs (argumentsRead op (version major minor) (now (s .entry)) (now (entries .entry)) (now (payload .entry))) ⌝ }
-    ensures entries { λ r. ⌜ now (entries .exit) ≡ bytesAfter (argumentsRead op (version major minor) (now (s .entry)) (now (entries .entry)) (now (payload .entry))) (run (argumentsTree op (version major minor)) (now (s .entry)) 0) (now (entries .entry)) ⌝ }
-    ensures payload { λ r. ⌜ now (payload .exit) ≡ payloadAfter (argumentsRead op (version major minor) (now (s .entry)) (now (entries .entry)) (now (payload .entry))) (now (s .entry)) (run (argumentsTree op (version major minor)) (now (s .entry)) 0) (now (payload .entry)) ⌝ }
+    ensures answer { λ r. ⌜ answerOf r (now (numbers .exit)) (now (counts .exit)) ≡ answerAs (shapeRead (version major minor) (argumentsOf (rowFor op)) (now (s .entry)) (slotsIn (now (words .entry)) (now (bytes .entry))) (length (now (payload .entry)))) ⌝ }
+    ensures words { λ r. ⌜ now (words .exit) ≡ filledAfter (shapeRead (version major minor) (argumentsOf (rowFor op)) (now (s .entry)) (slotsIn (now (words .entry)) (now (bytes .entry))) (length (now (payload .entry)))) (entriesOf (shapePieces (version major minor) (argumentsOf (rowFor op)) (now (s .entry)))) (now (words .entry)) ⌝ }
+    ensures bytes { λ r. ⌜ now (bytes .exit) ≡ filledAfter (shapeRead (version major minor) (argumentsOf (rowFor op)) (now (s .entry)) (slotsIn (now (words .entry)) (now (bytes .entry))) (length (now (payload .entry)))) (bytesOf (entriesOf (shapePieces (version major minor) (argumentsOf (rowFor op)) (now (s .entry))))) (now (bytes .entry)) ⌝ }
+    ensures payload { λ r. ⌜ now (payload .exit) ≡ filledAfter (shapeRead (version major minor) (argumentsOf (rowFor op)) (now (s .entry)) (slotsIn (now (words .entry)) (now (bytes .entry))) (length (now (payload .entry)))) (payloadOf (now (s .entry)) (shapePieces (version major minor) (argumentsOf (rowFor op)) (now (s .entry)))) (now (payload .entry)) ⌝ }
 {
-    let f = operations::arguments(op);
-    match f {
+    let shape = operations::arguments(op);
+    match shape {
         Shape::Unknown => judge::refuse(
             layouts::refuse(layouts::UNKNOWN_OPERATION, 0),
             numbers,
@@ -113,29 +120,31 @@ pub fn read_op_args(
             match b {
                 InBrief::Said(said) => said,
                 InBrief::Longer => {
-                    reading::read_bytes(s, layout, kind, entries, payload, numbers, counts)
+                    reading::read(s, layout, kind, words, bytes, payload, numbers, counts)
                 }
             }
         }
     }
 }
 
-pub fn read_daemon_result(
+pub fn read_reply(
     op: u64,
     major: u16,
     minor: u8,
     s: &[u8],
-    entries: &mut [u8],
+    words: &mut [u64],
+    bytes: &mut [u8],
     payload: &mut [u8],
     numbers: &mut [u64; 12],
     counts: &mut [u64; 3],
 ) -> Said
-    ensures answer { λ r. ⌜ answerOf r (now (numbers .exit)) (now (counts .exit)) ≡ answerAs (replyRead op (version major minor) (now (s .entry)) (now (entries .entry)) (now (payload .entry))) ⌝ }
-    ensures entries { λ r. ⌜ now (entries .exit) ≡ bytesAfter (replyRead op (version major minor) (now (s .entry)) (now (entries .entry)) (now (payload .entry))) (run (replyTree op (version major minor)) (now (s .entry)) 0) (now (entries .entry)) ⌝ }
-    ensures payload { λ r. ⌜ now (payload .exit) ≡ payloadAfter (replyRead op (version major minor) (now (s .entry)) (now (entries .entry)) (now (payload .entry))) (now (s .entry)) (run (replyTree op (version major minor)) (now (s .entry)) 0) (now (payload .entry)) ⌝ }
+    ensures answer { λ r. ⌜ answerOf r (now (numbers .exit)) (now (counts .exit)) ≡ answerAs (shapeRead (version major minor) (replyOf (rowFor op)) (now (s .entry)) (slotsIn (now (words .entry)) (now (bytes .entry))) (length (now (payload .entry)))) ⌝ }
+    ensures words { λ r. ⌜ now (words .exit) ≡ filledAfter (shapeRead (version major minor) (replyOf (rowFor op)) (now (s .entry)) (slotsIn (now (words .entry)) (now (bytes .entry))) (length (now (payload .entry)))) (entriesOf (shapePieces (version major minor) (replyOf (rowFor op)) (now (s .entry)))) (now (words .entry)) ⌝ }
+    ensures bytes { λ r. ⌜ now (bytes .exit) ≡ filledAfter (shapeRead (version major minor) (replyOf (rowFor op)) (now (s .entry)) (slotsIn (now (words .entry)) (now (bytes .entry))) (length (now (payload .entry)))) (bytesOf (entriesOf (shapePieces (version major minor) (replyOf (rowFor op)) (now (s .entry))))) (now (bytes .entry)) ⌝ }
+    ensures payload { λ r. ⌜ now (payload .exit) ≡ filledAfter (shapeRead (version major minor) (replyOf (rowFor op)) (now (s .entry)) (slotsIn (now (words .entry)) (now (bytes .entry))) (length (now (payload .entry)))) (payloadOf (now (s .entry)) (shapePieces (version major minor) (replyOf (rowFor op)) (now (s .entry)))) (now (payload .entry)) ⌝ }
 {
-    let f = operations::reply(op);
-    match f {
+    let shape = operations::reply(op);
+    match shape {
         Shape::Unknown => judge::refuse(
             layouts::refuse(layouts::UNKNOWN_OPERATION, 0),
             numbers,
@@ -147,7 +156,7 @@ pub fn read_daemon_result(
             match b {
                 InBrief::Said(said) => said,
                 InBrief::Longer => {
-                    reading::read_bytes(s, layout, kind, entries, payload, numbers, counts)
+                    reading::read(s, layout, kind, words, bytes, payload, numbers, counts)
                 }
             }
         }

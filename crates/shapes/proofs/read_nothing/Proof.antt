@@ -1,8 +1,8 @@
--- `protocol_bytes::read_nothing` meets its contract: a layout without fields is read as nothing.
+-- `shapes::read_nothing` meets its contract: a layout without fields is read as nothing.
 use borrow.Author.Needs.{needs}
-use Rattle.protocol_bytes.proofs.read_nothing.Statement.{statement}
-use Rattle.protocol_bytes.proofs.read_nothing.Tie as tie
-use Rattle.protocol_bytes.proofs.Brief.{nothing-said}
+use Rattle.shapes.proofs.read_nothing.Statement.{statement}
+use Rattle.shapes.proofs.read_nothing.Tie as tie
+use Rattle.shapes.proofs.Brief.{nothing-said}
 
 pub read-nothing-spec : {M : Type 1} → statement M
 read-nothing-spec =

@@ -1,16 +1,10 @@
 -- A read with the room of two lent slices of bytes: sixteen make a slot.
 use Prim.Native.Nat.{ℕ, _/_}
-use mathlib.Core.Path.{_≡_}
-use mathlib.Core.List.{List, []}
+use mathlib.Core.List.{List}
 use lib.ListN.{length}
 use Rattle.layouts.specs.Primitive.{Version, Result}
 use Rattle.layouts.specs.Pieces.{Pieces}
-use Rattle.layouts.specs.Judge.{entriesOf, payloadOf, lentAfter}
-use Rattle.items.specs.Items.{versionOf, piecesOf}
-use Rattle.judge.specs.Judged.{answerOf, answerAs}
-use Rattle.reading.specs.Reading.{readBy, answeredAs}
-use Rattle.protocol_bytes.specs.declared.InBrief.{InBrief}
-use Rattle.protocol_bytes.specs.declared.InBrief.the-variants as I
+use Rattle.layouts.specs.Judge.{entriesOf, lentAfter}
 use Rattle.layouts.specs.Calls.{Answer, readOpArgs, readDaemonResult}
 use Rattle.output.specs.Numbers.{bytesOf}
 
@@ -23,9 +17,3 @@ replyRead op v s entries payload = readDaemonResult op v s (length entries / 16)
 -- lent bytes after a read of these pieces
 abbrev pub bytesAfter : {A : Type 0} → Result A → Pieces → (lent : List ℕ) → List ℕ
 bytesAfter o p lent = lentAfter o (bytesOf (entriesOf p)) lent
-
--- what is said without a fold is what a read says, whatever the room, and nothing is filled in
-abbrev pub ReadInBrief : (layout code : ℕ) → List ℕ → (numbers counts : List ℕ) → InBrief → Type 0
-ReadInBrief l c s ns cs (I.Said a) =
-    ((slots room : ℕ) → answerOf a ns cs ≡ answerAs (answeredAs (versionOf l) c (readBy l s slots room))) × ((entriesOf (piecesOf l s 0) ≡ []) × (payloadOf s (piecesOf l s 0) ≡ []))
-ReadInBrief l c s ns cs I.Longer = Unit {0}

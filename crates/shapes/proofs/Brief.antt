@@ -1,16 +1,17 @@
 -- A layout that needs no fold: what is said of it, and that it fills nothing in.
 use Prim.Native.Nat.{ℕ}
 use mathlib.Core.Path.{_≡_, refl, sym, _∙_, ap, subst}
-use mathlib.Core.List.{List, [], _++_}
+use mathlib.Core.List.{List, []}
 use mathlib.Core.Bool.{false}
-use lib.ListN.{length, set, drop, replicate}
+use lib.ListN.{set, replicate}
+use lib.Seq.{sets}
 use Rattle.layouts.specs.declared.Refusal.{Refusal}
 use Rattle.layouts.specs.Primitive.{Result, ok, refused}
 use Rattle.layouts.specs.Refusal.{plain, refusedBy}
 use Rattle.layouts.specs.Shape.{asNumber, Tree, ask, stop}
 use Rattle.layouts.specs.Pieces.{Num, value, short, run}
 use Rattle.layouts.specs.Record.{blank, noted}
-use Rattle.layouts.specs.Judge.{Ended, judgeOf, entriesOf, payloadOf, lentAfter}
+use Rattle.layouts.specs.Judge.{Ended, judgeOf, entriesOf, payloadOf}
 use Rattle.layouts.specs.Calls.{peekNumber}
 use Rattle.number.specs.declared.Number.{Number}
 use Rattle.number.specs.declared.Number.the-variants.{Value, Short}
@@ -24,10 +25,11 @@ use Rattle.judge.specs.declared.Answer.{Answer}
 use Rattle.judge.specs.Judged.{answerOf, answerAs}
 use Rattle.output.specs.Numbers.{bytesOf}
 use Rattle.output.proofs.Numbers.{bytes-none}
+use Rattle.rooms.specs.Rooms.{filledAfter}
 use Rattle.reading.specs.Reading.{readBy, answeredAs}
-use Rattle.protocol_bytes.specs.declared.InBrief.{InBrief}
-use Rattle.protocol_bytes.specs.declared.InBrief.the-variants as I
-use Rattle.protocol_bytes.specs.Bytes.{ReadInBrief}
+use Rattle.shapes.specs.declared.InBrief.{InBrief}
+use Rattle.shapes.specs.declared.InBrief.the-variants as I
+use Rattle.shapes.specs.Shapes.{ReadInBrief}
 
 module _ (l c : ℕ) where
   abbrev Answers : List ℕ → Answer → Type 0
@@ -78,19 +80,19 @@ module _ (l c : ℕ) where
       (ap (λ (t : Tree). entriesOf (run t s 0)) z ∙ h .0, ap (λ (t : Tree). payloadOf s (run t s 0)) z ∙ h .1)
 
 -- ---- for one who has matched on it: the answer, and rooms that stay
-lent-none : {A : Type 0} (o : Result A) (new lent : List ℕ) → new ≡ [] → lent ≡ lentAfter o new lent
-lent-none (ok a) new lent e = ap (λ (x : List ℕ). x ++ drop (length x) lent) (sym e)
+lent-none : {A : Type 0} (o : Result A) (new lent : List ℕ) → new ≡ [] → lent ≡ filledAfter o new lent
+lent-none (ok a) new lent e = ap (sets lent 0) (sym e)
 lent-none (refused which place stream) new lent e = refl
 
 module _ (l c : ℕ) (s ns cs : List ℕ) (b : InBrief) (h : ReadInBrief l c s ns cs b) (a : Said) (q : b ≡ I.Said a) where
   told : ReadInBrief l c s ns cs (I.Said a)
   told = subst (ReadInBrief l c s ns cs) q h
 
-  pub brief-said : (slots room : ℕ) → answerOf a ns cs ≡ answerAs (answeredAs (versionOf l) c (readBy l s slots room))
-  brief-said = told .0
-
-  pub brief-bytes : (slots room : ℕ) (lent : List ℕ) → lent ≡ lentAfter (readBy l s slots room) (bytesOf (entriesOf (piecesOf l s 0))) lent
-  brief-bytes slots room lent = lent-none (readBy l s slots room) _ lent (ap bytesOf (told .1 .0) ∙ bytes-none)
-
-  pub brief-payload : (slots room : ℕ) (lent : List ℕ) → lent ≡ lentAfter (readBy l s slots room) (payloadOf s (piecesOf l s 0)) lent
-  brief-payload slots room lent = lent-none (readBy l s slots room) _ lent (told .1 .1)
+  pub brief-read : (slots room : ℕ) (words bytes payload : List ℕ)
+      → (answerOf a ns cs ≡ answerAs (answeredAs (versionOf l) c (readBy l s slots room)))
+      × ((words ≡ filledAfter (readBy l s slots room) (entriesOf (piecesOf l s 0)) words)
+      × ((bytes ≡ filledAfter (readBy l s slots room) (bytesOf (entriesOf (piecesOf l s 0))) bytes) × (payload ≡ filledAfter (readBy l s slots room) (payloadOf s (piecesOf l s 0)) payload)))
+  brief-read slots room words bytes payload =
+      let o = readBy l s slots room in
+      let e = told .1 .0 in
+      (told .0 slots room, (lent-none o _ words e, (lent-none o _ bytes (ap bytesOf e ∙ bytes-none), lent-none o _ payload (told .1 .1))))

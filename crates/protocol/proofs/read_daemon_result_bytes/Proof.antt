@@ -1,0 +1,19 @@
+-- `protocol::read_daemon_result_bytes` meets its contract: what is judged fine fits.
+use borrow.Author.Needs.{needs}
+use Rattle.protocol.proofs.read_daemon_result_bytes.Statement.{statement}
+use Rattle.protocol.proofs.read_daemon_result_bytes.Tie as tie
+use denote.Ref.{now}
+use mathlib.Core.Path.{refl}
+use mathlib.Core.List.{[]}
+use Rattle.layouts.specs.Primitive.{version}
+use Rattle.protocol.proofs.Read.{reply-bytes}
+
+pub read-daemon-result-bytes-spec : {M : Type 1} → statement M
+read-daemon-result-bytes-spec =
+    tie.close
+    (tie.spec
+    (λ c. search needs)
+    (λ c κs. search needs)
+    (λ c. search needs)
+    (λ c. search needs)
+    (λ c. reply-bytes _ (version (c .before .before .before .before .before .before .before .before .before .before .before .before .before .before .args .major) (c .before .before .before .before .before .before .before .before .before .before .before .before .before .before .args .minor)) (now (c .before .before .before .before .before .before .before .before .before .before .before .before .before .before .args .s)) [] (now (c .before .before .before .before .before .before .before .before .before .before .before .before .before .before .args .entries)) (now (c .before .before .before .before .before .before .before .before .before .before .before .before .before .before .args .payload)) _ _ _ _ (c .before .before .before .before .before .read-reply .ensures) refl))

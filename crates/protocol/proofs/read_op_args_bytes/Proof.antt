@@ -1,0 +1,19 @@
+-- `protocol::read_op_args_bytes` meets its contract: what is judged fine fits.
+use borrow.Author.Needs.{needs}
+use Rattle.protocol.proofs.read_op_args_bytes.Statement.{statement}
+use Rattle.protocol.proofs.read_op_args_bytes.Tie as tie
+use denote.Ref.{now}
+use mathlib.Core.Path.{refl}
+use mathlib.Core.List.{[]}
+use Rattle.layouts.specs.Primitive.{version}
+use Rattle.protocol.proofs.Read.{arguments-bytes}
+
+pub read-op-args-bytes-spec : {M : Type 1} → statement M
+read-op-args-bytes-spec =
+    tie.close
+    (tie.spec
+    (λ c. search needs)
+    (λ c κs. search needs)
+    (λ c. search needs)
+    (λ c. search needs)
+    (λ c. arguments-bytes _ (version (c .before .before .before .before .before .before .before .before .before .before .before .before .before .before .args .major) (c .before .before .before .before .before .before .before .before .before .before .before .before .before .before .args .minor)) (now (c .before .before .before .before .before .before .before .before .before .before .before .before .before .before .args .s)) [] (now (c .before .before .before .before .before .before .before .before .before .before .before .before .before .before .args .entries)) (now (c .before .before .before .before .before .before .before .before .before .before .before .before .before .before .args .payload)) _ _ _ _ (c .before .before .before .before .before .read-arguments .ensures) refl))

@@ -1,3 +1,0 @@
--- `Unique`: each public contract has one answer.
-pub mod Brief
-pub mod Unique

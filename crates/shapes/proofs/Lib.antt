@@ -1,0 +1,4 @@
+-- `Unique`: each public contract has one answer. The others serve the functions' proofs, here and in `protocol`.
+pub mod Brief
+pub mod Shapes
+pub mod Unique
