@@ -1,9 +1,9 @@
 -- Item by item: what remains is judged as the whole.
-use Prim.Native.Nat.{ℕ, _+_, _-_, _*_, _≤_, _<_, zero, suc}
+use Prim.Native.Nat.{ℕ, _-_, _*_, _≤_, _<_, zero, suc}
 use mathlib.Core.Path.{_≡_, refl, sym, _∙_, ap, subst}
 use mathlib.Core.List.{List, []}
 use mathlib.Core.Bool.{Bool, not}
-use lib.ListN.{length, set, take}
+use lib.ListN.{set, take}
 use lib.Seq.{sets}
 use lib.Dec.{eqb}
 use native.Mathlib.Omega.{arith}
@@ -14,17 +14,18 @@ use Rattle.layouts.specs.declared.Refusal.{Refusal}
 use Rattle.layouts.specs.Refusal.{refusedBy}
 use Rattle.layouts.specs.Shape.{Tree, truth}
 use Rattle.layouts.specs.Pieces.{Pieces, run}
-use Rattle.layouts.specs.Record.{noted, withEntries, withPayload, withNumber, withCount, withPresence}
+use Rattle.layouts.specs.Record.{noted, withEntries, withPayload, withNumber}
 use Rattle.layouts.specs.Judge.{Ended, judgeOf, entriesOf}
 use Rattle.table.specs.Table.{slotOf}
 use Rattle.items.specs.declared.Item.{Item}
 use Rattle.items.specs.Items.{versionOf, layoutTree, piecesOf, restTree, itemTree, Falls}
 use Rattle.items.proofs.Trees.{end-item, quiet-item}
 use Rattle.passing.specs.Passing.{fuelOf}
+use Rattle.taking.specs.Taking.{ahead}
 use Rattle.judge.specs.declared.Answer.{Answer}
 use Rattle.judge.specs.declared.Fed.{Fed}
 use Rattle.judge.specs.declared.Fed.the-variants as F
-use Rattle.judge.specs.Judged.{gathered, answerAs, endedAs, ahead, fedTo, fedIn, Feeds, FedTook}
+use Rattle.judge.specs.Judged.{gathered, answerAs, endedAs, fedTo, fedIn, Feeds, FedTook}
 use Rattle.judge.proofs.Notes.{noted-none, noted-number, noted-flag, noted-count, noted-presence, is-true}
 
 take-none : (n : ℕ) → take {A = ℕ} n [] ≡ []

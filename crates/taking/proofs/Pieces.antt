@@ -1,9 +1,9 @@
 -- What a string or a chunk is taken for, in each case.
 use Prim.Native.Nat.{ℕ, suc, _+_, _-_, _*_, _≤_, _<_}
-use mathlib.Core.Path.{_≡_, sym, _∙_, ap}
+use mathlib.Core.Path.{_≡_, _∙_, ap}
 use mathlib.Core.List.{List, _∷_}
 use mathlib.Core.Bool.{Bool, true, false, not}
-use lib.ListN.{length, set, take, drop}
+use lib.ListN.{set, take, drop}
 use lib.Seq.{sets}
 use borrow.Author.Tests.{le-leb, lt-leb}
 use native.Mathlib.Omega.{arith}
@@ -18,7 +18,7 @@ use Rattle.layouts.specs.Judge.{Ended, notText, textTaken, halfTaken, chunkTake
 use Rattle.layouts.specs.Pieces.{Pieces, text}
 use Rattle.table.specs.Table.{roleOf}
 use Rattle.table.proofs.Roles.{kept-from, kept-below, decoded-some}
-use Rattle.judge.specs.Judged.{inWindow, ahead}
+use Rattle.taking.specs.Taking.{inWindow, ahead}
 
 module _ (s : List ℕ) (role start len : ℕ) where
   pub any-text : role ≡ 0 → false ≡ notText s (roleOf role) start len

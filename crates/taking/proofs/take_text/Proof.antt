@@ -1,8 +1,8 @@
--- `judge::take_text` meets its contract: 3 before 4.
+-- `taking::take_text` meets its contract: 3 before 4.
 use borrow.Author.Needs.{needs}
-use Rattle.judge.proofs.take_text.Statement.{statement}
-use Rattle.judge.proofs.take_text.Tie as tie
-use Rattle.judge.proofs.Pieces.{text-bad, text-passed, text-full, text-kept, passed-in, kept-in}
+use Rattle.taking.proofs.take_text.Statement.{statement}
+use Rattle.taking.proofs.take_text.Tie as tie
+use Rattle.taking.proofs.Pieces.{text-bad, text-passed, text-full, text-kept, passed-in, kept-in}
 
 pub take-text-spec : {M : Type 1} → statement M
 take-text-spec =

@@ -1,10 +1,10 @@
--- `judge::judge_text` meets its contract: by what was found, and what is made of it.
+-- `taking::judge_text` meets its contract: by what was found, and what is made of it.
 use borrow.Author.Needs.{needs}
-use Rattle.judge.proofs.judge_text.Statement.{statement}
-use Rattle.judge.proofs.judge_text.Tie as tie
+use Rattle.taking.proofs.judge_text.Statement.{statement}
+use Rattle.taking.proofs.judge_text.Tie as tie
 use denote.Ref.{now}
 use Rattle.pieces.proofs.Nodes.{half-within, whole-found}
-use Rattle.judge.proofs.Rows.{of-bad, of-half, of-refused, of-whole, whole-took}
+use Rattle.taking.proofs.Rows.{of-bad, of-half, of-refused, of-whole, whole-took}
 
 pub judge-text-spec : {M : Type 1} → statement M
 judge-text-spec =

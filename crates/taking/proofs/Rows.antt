@@ -21,11 +21,11 @@ use Rattle.strings.specs.declared.More.{More}
 use Rattle.strings.specs.declared.More.the-variants as M
 use Rattle.strings.specs.Strings.{row, rowAfter, afterNext}
 use Rattle.strings.proofs.Rows.{row-next}
-use Rattle.judge.specs.declared.Taken.{Taken}
-use Rattle.judge.specs.declared.Taken.the-variants as K
-use Rattle.judge.specs.declared.Row.{Row}
-use Rattle.judge.specs.declared.Row.the-variants as O
-use Rattle.judge.specs.Judged.{ahead, taken, TakenIn, rowTo, rowIn, Takes, RowTook}
+use Rattle.taking.specs.declared.Taken.{Taken}
+use Rattle.taking.specs.declared.Taken.the-variants as K
+use Rattle.taking.specs.declared.Row.{Row}
+use Rattle.taking.specs.declared.Row.the-variants as O
+use Rattle.taking.specs.Taking.{ahead, taken, TakenIn, rowTo, rowIn, Takes, RowTook}
 
 -- ---- one string
 pub whole-took : (s : List ℕ) (at : ℕ) (t : T.Text) → t ≡ textFound (textOf (length s) (numberAt s at) at) → (start len next : ℕ) → t ≡ Whole start len next → (at + 8 ≤ next) × (at + 8 ≤ length s)

@@ -1,0 +1,5 @@
+-- They serve the functions' proofs, here and in `judge`.
+pub mod Pieces
+pub mod Numbers
+pub mod Rows
+pub mod Frames
