@@ -25,7 +25,7 @@ use Rattle.items.proofs.Trees.{times-item, field-item}
 use Rattle.items.proofs.Fields.{is-text, is-framed, is-number, after-set, after-pairs, after-false, after-true, after-type-0, after-typed, after-nothing}
 use Rattle.taking.specs.declared.Row.{Row}
 use Rattle.taking.specs.declared.Row.the-variants as O
-use Rattle.taking.specs.Taking.{inWindow, ahead, rowTo, rowIn, Takes, RowFrom, RowTook, framesTo, framesIn, TakesFrames}
+use Rattle.taking.specs.Taking.{inWindow, ahead, held, rowTo, rowIn, Takes, RowFrom, RowTook, framesTo, framesIn, TakesFrames}
 use Rattle.taking.proofs.Numbers.{same-entries, cut-judges, ask-judges, ask-keeps}
 use Rattle.taking.proofs.Frames.{same-payload}
 use Rattle.judge.specs.declared.Fed.the-variants as F
@@ -59,6 +59,7 @@ module _ (s : List ℕ) (slots at : ℕ) (w : List ℕ) (n : ℕ) (w' : List ℕ
       record {
         judges = λ room k x z. ap (λ (y : Tree). judgeOf s slots room x (run y s at)) (e k) ∙ h .judges room k x z;
         keeps = λ k. subst (λ (y : Tree). rowIn s w' (ahead w n (run y s at)) k r) (sym (e k)) (h .keeps k);
+        holds = λ k. ap (λ (y : Tree). held s slots w n (run y s at)) (e k) ∙ h .holds k;
       }
 
   module _ (kind role v : ℕ) where
@@ -86,7 +87,7 @@ module _ (s : List ℕ) (slots at : ℕ) (w : List ℕ) (n : ℕ) (w' : List ℕ
 
 module _ (s : List ℕ) (slots at : ℕ) (w : List ℕ) (n kind role v : ℕ) where
   stays : Takes s slots at (λ k. k tt) w n w (O.Past at n)
-  stays = record { judges = λ room k x z. ap (λ (y : Record). judgeOf s slots room y (run (k tt) s at)) (same-entries x n z); keeps = λ k. refl }
+  stays = record { judges = λ room k x z. ap (λ (y : Record). judgeOf s slots room y (run (k tt) s at)) (same-entries x n z); keeps = λ k. refl; holds = λ k. refl }
 
   pub false-after : kind ≡ 6 → v ≡ 0 → After s slots at w n w kind role v (O.Past at n)
   false-after e f = takes-as s slots at w n w _ _ (O.Past at n) (λ k. after-false kind role v k e f) stays
