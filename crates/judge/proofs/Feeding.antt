@@ -1,50 +1,37 @@
--- A number, a string, framed data and what follows a number, judged.
-use Prim.Native.Nat.{ℕ, zero, suc, _+_, _-_, _≤_, _<_}
+-- A string, framed data, a number and what follows it: as the items of a layout.
+use Prim.Native.Nat.{ℕ, _+_, _≤_, _<_}
 use mathlib.Core.Path.{_≡_, refl, sym, _∙_, ap, subst}
 use mathlib.Core.List.{List}
 use lib.ListN.{length}
 use native.Mathlib.Omega.{arith}
 use native.Mathlib.Decide.{decLt}
-use borrow.Author.Tests.{eq-eqb, ne-eqb}
 use Rattle.layouts.specs.declared.Record.{Record}
 use Rattle.layouts.specs.declared.Refusal.{Refusal}
-use Rattle.layouts.specs.Primitive.{Version, numberAt, Result, refused, onward}
+use Rattle.layouts.specs.Primitive.{Version}
 use Rattle.layouts.specs.Refusal.{plain, refusedBy}
 use Rattle.layouts.specs.Calls.{peekNumber}
-use Rattle.layouts.specs.Shape.{Slot, dropped, asNumber, asFlag, asCount, asPresence, Role, Tree, ask, say, frames, strings, units}
-use Rattle.layouts.specs.Pieces.{Pieces, chunkOf, run}
+use Rattle.layouts.specs.Shape.{Slot, dropped, asNumber, asFlag, asCount, asPresence, Tree, ask, say, frames, strings}
+use Rattle.layouts.specs.Pieces.{run}
 use Rattle.layouts.specs.Record.{noted, withEntries, withPayload}
-use Rattle.layouts.specs.Judge.{Ended, chunkTaken, judgeOf, entriesOf}
+use Rattle.layouts.specs.Judge.{judgeOf, entriesOf}
 use Rattle.number.specs.declared.Number.{Number}
 use Rattle.number.specs.declared.Number.the-variants.{Value, Short}
-use Rattle.pieces.specs.declared.Chunk as C
-use Rattle.pieces.specs.declared.Chunk.the-variants.{Part, Last, Wrong}
-use Rattle.pieces.specs.Pieces.{numRead, chunkFound}
-use Rattle.pieces.proofs.Found.{chunkRead, wrong-plain}
-use Rattle.pieces.proofs.Numbers.{number-known}
-use Rattle.pieces.proofs.Nodes.{ask-cut, ask-found, framesBy, frames-as, last-found, part-found}
+use Rattle.pieces.specs.Pieces.{numRead}
 use Rattle.strings.specs.Strings.{row}
-use Rattle.table.specs.declared.Field.{Field}
 use Rattle.table.specs.Table.{roleOf, slotOf}
 use Rattle.items.specs.declared.Item.{Item}
 use Rattle.items.specs.Items.{timesOf, onto, itemTree, slotFor, afterNumber}
 use Rattle.items.proofs.Trees.{times-item, field-item}
 use Rattle.items.proofs.Fields.{is-text, is-framed, is-number, after-set, after-pairs, after-false, after-true, after-type-0, after-typed, after-nothing}
-use Rattle.judge.specs.declared.Taken.{Taken}
-use Rattle.judge.specs.declared.Taken.the-variants as K
-use Rattle.judge.specs.declared.Row.{Row}
-use Rattle.judge.specs.declared.Row.the-variants as O
-use Rattle.judge.specs.declared.Fed.{Fed}
+use Rattle.taking.specs.declared.Row.{Row}
+use Rattle.taking.specs.declared.Row.the-variants as O
+use Rattle.taking.specs.Taking.{inWindow, ahead, held, rowTo, rowIn, Takes, RowFrom, RowTook, framesTo, framesIn, TakesFrames}
+use Rattle.taking.proofs.Numbers.{same-entries, cut-judges, ask-judges, ask-keeps}
+use Rattle.taking.proofs.Frames.{same-payload}
 use Rattle.judge.specs.declared.Fed.the-variants as F
-use Rattle.judge.specs.Judged.{inWindow, ahead, taken, rowTo, rowIn, Takes, RowFrom, RowTook, framesTo, framesIn, TakesFrames, fedTo, fedIn, Feeds}
+use Rattle.judge.specs.Judged.{Feeds}
 
 -- ---- the record
-same-entries : (x : Record) (n : ℕ) → x .entries ≡ n → x ≡ withEntries x n
-same-entries x n z = ap (λ (i : ℕ). withEntries x i) z
-
-same-payload : (x : Record) (p : ℕ) → x .payload ≡ p → x ≡ withPayload x p
-same-payload x p z = ap (λ (i : ℕ). withPayload x i) z
-
 noted-keeps : (x : Record) (i : Slot) (v : ℕ) → noted x i v .entries ≡ x .entries
 unfolding noted
 noted-keeps x dropped v = refl
@@ -61,47 +48,18 @@ noted-entries x (asFlag i) v n = refl
 noted-entries x (asCount i) v n = refl
 noted-entries x asPresence v n = refl
 
-module _ (s : List ℕ) (at : ℕ) where
-  pub took-from : (r : Row) → RowTook s at r → RowFrom at r
-  took-from (O.Past a n) h = omega (arith, h)
-  took-from (O.Refused r) h = tt
-
-  -- ---- a number
-  module _ (m : Number) (e : numRead m ≡ peekNumber s at) where
-    cut-judges : (r : Refusal) → r ≡ plain 1 at → m ≡ Short → (slots room : ℕ) (x : Record) (i : Slot) (j : ℕ → Tree) → judgeOf s slots room x (run (ask i j) s at) ≡ refusedBy r
-    unfolding judgeOf
-    cut-judges r g q slots room x i j = rw g (ap (judgeOf s slots room x) (ask-cut s at m e q i j))
-
-    pub dropped-cut : (n : ℕ) (r : Refusal) → r ≡ plain 1 at → m ≡ Short → (slots : ℕ) (w : List ℕ) → Takes s slots at (λ k. ask dropped (λ v. k tt)) w n w (O.Refused r)
-    dropped-cut n r g q slots w = record { judges = λ room k x z. cut-judges r g q slots room x dropped (λ v. k tt); keeps = λ k. tt }
-
-    module _ (v : ℕ) (q : m ≡ Value v) where
-      ask-judges : (slots room : ℕ) (x : Record) (i : Slot) (j : ℕ → Tree) → judgeOf s slots room x (run (ask i j) s at) ≡ judgeOf s slots room (noted x i v) (run (j v) s (at + 8))
-      unfolding judgeOf
-      ask-judges slots room x i j = ap (judgeOf s slots room x) (ask-found s at m e v q i j)
-
-      ask-keeps : (w : List ℕ) (n : ℕ) (i : Slot) (j : ℕ → Tree) → ahead w n (run (ask i j) s at) ≡ ahead w n (run (j v) s (at + 8))
-      unfolding entriesOf
-      ask-keeps w n i j = ap (ahead w n) (ask-found s at m e v q i j)
-
-      pub dropped-value : (n slots : ℕ) (w : List ℕ) → Takes s slots at (λ k. ask dropped (λ v. k tt)) w n w (O.Past (at + 8) n)
-      unfolding noted
-      dropped-value n slots w =
-          record {
-            judges = λ room k x z. ask-judges slots room x dropped (λ v. k tt) ∙ ap (λ (y : Record). judgeOf s slots room y (run (k tt) s (at + 8))) (same-entries x n z);
-            keeps = λ k. ask-keeps w n dropped (λ v. k tt);
-          }
-
-      pub value-took : (at + 8 ≤ at + 8) × (at + 8 ≤ length s)
-      value-took = let h = number-known s at m e v q in (omega arith, h .0)
-
 -- ---- what follows the number of a field
+pub took-from : (s : List ℕ) (at : ℕ) (r : Row) → RowTook s at r → RowFrom at r
+took-from s at (O.Past a n) h = omega (arith, h)
+took-from s at (O.Refused r) h = tt
+
 module _ (s : List ℕ) (slots at : ℕ) (w : List ℕ) (n : ℕ) (w' : List ℕ) where
   takes-as : (t u : (Unit {0} → Tree) → Tree) (r : Row) → ((k : Unit {0} → Tree) → t k ≡ u k) → Takes s slots at u w n w' r → Takes s slots at t w n w' r
   takes-as t u r e h =
       record {
         judges = λ room k x z. ap (λ (y : Tree). judgeOf s slots room x (run y s at)) (e k) ∙ h .judges room k x z;
         keeps = λ k. subst (λ (y : Tree). rowIn s w' (ahead w n (run y s at)) k r) (sym (e k)) (h .keeps k);
+        holds = λ k. ap (λ (y : Tree). held s slots w n (run y s at)) (e k) ∙ h .holds k;
       }
 
   module _ (kind role v : ℕ) where
@@ -129,63 +87,13 @@ module _ (s : List ℕ) (slots at : ℕ) (w : List ℕ) (n : ℕ) (w' : List ℕ
 
 module _ (s : List ℕ) (slots at : ℕ) (w : List ℕ) (n kind role v : ℕ) where
   stays : Takes s slots at (λ k. k tt) w n w (O.Past at n)
-  stays = record { judges = λ room k x z. ap (λ (y : Record). judgeOf s slots room y (run (k tt) s at)) (same-entries x n z); keeps = λ k. refl }
+  stays = record { judges = λ room k x z. ap (λ (y : Record). judgeOf s slots room y (run (k tt) s at)) (same-entries x n z); keeps = λ k. refl; holds = λ k. refl }
 
   pub false-after : kind ≡ 6 → v ≡ 0 → After s slots at w n w kind role v (O.Past at n)
   false-after e f = takes-as s slots at w n w _ _ (O.Past at n) (λ k. after-false kind role v k e f) stays
 
   pub nothing-after : (kind ≡ 3 → ⊥) → (kind ≡ 4 → ⊥) → (kind ≡ 6 → ⊥) → (kind ≡ 7 → ⊥) → After s slots at w n w kind role v (O.Past at n)
   nothing-after a b c d = takes-as s slots at w n w _ _ (O.Past at n) (λ k. after-nothing kind role v k a b c d) stays
-
--- ---- framed data
-module _ (s : List ℕ) (room from n₀ : ℕ) where
-  pub record Framing (at n : ℕ) : Type 0 where
-    pub on : from ≤ at
-    pub judges : (slots : ℕ) (k : Unit {0} → Tree) (x : Record) → x .payload ≡ n₀ → judgeOf s slots room x (run (frames k) s from) ≡ judgeOf s slots room (withPayload x n) (run (frames k) s at)
-    pub keeps : (k : Unit {0} → Tree) → entriesOf (run (frames k) s from) ≡ entriesOf (run (frames k) s at)
-
-  pub framing-start : Framing from n₀
-  framing-start = record { on = omega arith; judges = λ slots k x z. ap (λ (y : Record). judgeOf s slots room y (run (frames k) s from)) (same-payload x n₀ z); keeps = λ k. refl }
-
-  module _ (at n : ℕ) (g : Framing at n) (m : C.Chunk) (e : m ≡ chunkFound (chunkOf (length s) (numberAt s at) at)) where
-    framed : (y : C.Chunk) → m ≡ y → (slots : ℕ) (k : Unit {0} → Tree) (x : Record) → x .payload ≡ n₀
-        → judgeOf s slots room x (run (frames k) s from) ≡ judgeOf s slots room (withPayload x n) (framesBy s at k (chunkRead y))
-    framed y q slots k x z =
-        g .judges slots k x z ∙ ap (judgeOf s slots room (withPayload x n)) (frames-as s at m e y q k)
-
-    kept : (y : C.Chunk) → m ≡ y → (k : Unit {0} → Tree) → entriesOf (run (frames k) s from) ≡ entriesOf (framesBy s at k (chunkRead y))
-    kept y q k = g .keeps k ∙ ap entriesOf (frames-as s at m e y q k)
-
-    pub framing-wrong : (r : Refusal) → m ≡ Wrong r → TakesFrames s room from n₀ (O.Refused r)
-    unfolding judgeOf
-    framing-wrong r q = record { judges = λ slots k x z. rw (wrong-plain s at m e r q) (framed (Wrong r) q slots k x z); keeps = λ k. tt }
-
-    pub framing-last : (next : ℕ) → m ≡ Last next → TakesFrames s room from n₀ (O.Past next n)
-    framing-last next q = record { judges = λ slots k x z. framed (Last next) q slots k x z; keeps = λ k. kept (Last next) q k }
-
-    pub last-took : (next : ℕ) → m ≡ Last next → (from + 8 ≤ next) × (from + 8 ≤ length s)
-    last-took next q =
-        let h = last-found s at m e next q in
-        let o = g .on in
-        (omega (arith, h), omega (arith, h))
-
-    module _ (start len next : ℕ) (q : m ≡ Part start len next) (o : Taken) (w : (x : Record) → x .payload ≡ n → taken (withPayload x) o ≡ chunkTaken room x start len) where
-      took-chunk : (y : Taken) → o ≡ y → (slots : ℕ) (k : Unit {0} → Tree) (x : Record) → x .payload ≡ n₀
-          → judgeOf s slots room x (run (frames k) s from) ≡ onward (taken (withPayload x) y) (λ x'. judgeOf s slots room x' (run (frames k) s next))
-      unfolding judgeOf
-      took-chunk y i slots k x z =
-          framed (Part start len next) q slots k x z
-          ∙ ap (λ (u : Result Record). onward u (λ x'. judgeOf s slots room x' (run (frames k) s next))) (sym (w (withPayload x n) refl) ∙ ap (taken (withPayload x)) i)
-
-      pub framing-stop : (r : Refusal) → o ≡ K.Refused r → TakesFrames s room from n₀ (O.Refused r)
-      framing-stop r i = record { judges = λ slots k x z. took-chunk (K.Refused r) i slots k x z; keeps = λ k. tt }
-
-      pub framing-on : (n' : ℕ) → o ≡ K.Fine n' → Framing next n'
-      unfolding entriesOf
-      framing-on n' i =
-          let h = part-found s at m e start len next q in
-          let b = g .on in
-          record { on = omega (arith, h); judges = λ slots k x z. took-chunk (K.Fine n') i slots k x z; keeps = λ k. kept (Part start len next) q k }
 
 -- ---- an item
 module _ (s : List ℕ) (slots at n p : ℕ) (f : Item) (w : List ℕ) where

@@ -1,10 +1,9 @@
 -- Item by item: what remains is judged as the whole.
-use Prim.Native.Nat.{ℕ, _+_, _-_, _*_, _≤_, _<_, zero, suc}
+use Prim.Native.Nat.{ℕ, _-_, _≤_, _<_}
 use mathlib.Core.Path.{_≡_, refl, sym, _∙_, ap, subst}
-use mathlib.Core.List.{List, []}
+use mathlib.Core.List.{List}
 use mathlib.Core.Bool.{Bool, not}
-use lib.ListN.{length, set, take}
-use lib.Seq.{sets}
+use lib.ListN.{set}
 use lib.Dec.{eqb}
 use native.Mathlib.Omega.{arith}
 use borrow.Author.Tests.{lt-ltb}
@@ -14,22 +13,20 @@ use Rattle.layouts.specs.declared.Refusal.{Refusal}
 use Rattle.layouts.specs.Refusal.{refusedBy}
 use Rattle.layouts.specs.Shape.{Tree, truth}
 use Rattle.layouts.specs.Pieces.{Pieces, run}
-use Rattle.layouts.specs.Record.{noted, withEntries, withPayload, withNumber, withCount, withPresence}
+use Rattle.layouts.specs.Record.{noted, withEntries, withPayload, withNumber}
 use Rattle.layouts.specs.Judge.{Ended, judgeOf, entriesOf}
 use Rattle.table.specs.Table.{slotOf}
 use Rattle.items.specs.declared.Item.{Item}
 use Rattle.items.specs.Items.{versionOf, layoutTree, piecesOf, restTree, itemTree, Falls}
 use Rattle.items.proofs.Trees.{end-item, quiet-item}
 use Rattle.passing.specs.Passing.{fuelOf}
+use Rattle.taking.specs.Taking.{ahead}
+use Rattle.taking.proofs.Pieces.{nothing-in}
 use Rattle.judge.specs.declared.Answer.{Answer}
 use Rattle.judge.specs.declared.Fed.{Fed}
 use Rattle.judge.specs.declared.Fed.the-variants as F
-use Rattle.judge.specs.Judged.{gathered, answerAs, endedAs, ahead, fedTo, fedIn, Feeds, FedTook}
+use Rattle.judge.specs.Judged.{gathered, answerAs, endedAs, fedTo, fedIn, Feeds, FedTook}
 use Rattle.judge.proofs.Notes.{noted-none, noted-number, noted-flag, noted-count, noted-presence, is-true}
-
-take-none : (n : ℕ) → take {A = ℕ} n [] ≡ []
-take-none zero = refl
-take-none (suc n) = refl
 
 abbrev pub toCome : List ℕ → Version → (at pc reps body i : ℕ) → Pieces
 toCome s ver at pc reps body i = run (restTree ver pc reps body i tt) s at
@@ -52,8 +49,7 @@ module _ (s : List ℕ) (slots room : ℕ) (ver : Version) (at pc reps body x : 
   unfolding run judgeOf entriesOf
   going-end k =
       let h = by-item _ (end-item ver f k) in
-      let n = 16 - 2 * (got .entries) in
-      (ap (λ (y : Result Ended). answerAs (endedAs y)) (h .judges), sym (ap (sets w (2 * got .entries)) (take-none n)) ∙ h .keeps)
+      (ap (λ (y : Result Ended). answerAs (endedAs y)) (h .judges), sym (nothing-in w (got .entries)) ∙ h .keeps)
 
   pub going-quiet : f .kind ≡ 16 → Going s slots room o v got w (toCome s ver at (f .pc) (f .reps) (f .body) (f .run))
   going-quiet k = by-item _ (quiet-item ver f k)

@@ -23,7 +23,8 @@ use Rattle.items.specs.declared.Brief.{Brief}
 use Rattle.items.specs.Items.{versionOf, layoutTree, piecesOf, Briefly}
 use Rattle.judge.specs.declared.Said.{Said}
 use Rattle.judge.specs.declared.Said.the-variants as S
-use Rattle.judge.specs.Judged.{gathered, answerOf, answerAs, endedAs, inWindow, windowAfter}
+use Rattle.taking.specs.Taking.{inWindow}
+use Rattle.judge.specs.Judged.{gathered, answerOf, answerAs, endedAs, windowAfter}
 use Rattle.judge.proofs.Answers.{said-fine, said-refused, ended-fine, ended-refused}
 use Rattle.output.specs.Numbers.{bytesOf}
 use Rattle.rooms.specs.Rooms.{filledAfter}

@@ -32,7 +32,7 @@ fn fill_in(
         fill::fill(s, 0, layout, words, 0, bytes, 0, payload);
         return;
     }
-    if judge::WINDOW < entries {
+    if taking::WINDOW < entries {
         fill::fill(s, 0, layout, words, 0, bytes, 0, payload);
         return;
     }

@@ -3,7 +3,7 @@ use borrow.Author.Needs.{needs}
 use Rattle.judge.proofs.feed.Statement.{statement}
 use Rattle.judge.proofs.feed.Tie as tie
 use denote.Ref.{now}
-use Rattle.judge.proofs.Rows.{row-took}
+use Rattle.taking.proofs.Rows.{row-took}
 use Rattle.judge.proofs.Feeding.{fed-refused, fed-text, frames-refused, frames-fed}
 
 pub feed-spec : {M : Type 1} → statement M

@@ -9,7 +9,8 @@ use native.Mathlib.Omega.{arith}
 use Rattle.layouts.specs.Judge.{judgeOf, entriesOf}
 use Rattle.items.specs.Items.{versionOf, piecesOf}
 use Rattle.passing.specs.Passing.{fuelOf}
-use Rattle.judge.specs.Judged.{gathered, ahead}
+use Rattle.taking.specs.Taking.{ahead}
+use Rattle.judge.specs.Judged.{gathered}
 use Rattle.judge.proofs.Judging.{toCome, Going, going-start, going-end, going-quiet, going-refused, going-on, quiet-less, fed-less}
 
 abbrev Inv-loop : tie.InvT-loop

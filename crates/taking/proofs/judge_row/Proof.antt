@@ -1,13 +1,13 @@
--- `judge::judge_row` meets its contract: string by string.
+-- `taking::judge_row` meets its contract: string by string.
 use borrow.Author.Needs.{needs}
-use Rattle.judge.proofs.judge_row.Statement.{statement}
-use Rattle.judge.proofs.judge_row.Tie as tie
+use Rattle.taking.proofs.judge_row.Statement.{statement}
+use Rattle.taking.proofs.judge_row.Tie as tie
 use denote.Ref.{now}
 use Prim.Native.Nat.{_-_}
 use lib.ListN.{length}
 use native.Mathlib.Omega.{arith}
 use Rattle.table.specs.Table.{roleOf}
-use Rattle.judge.proofs.Rows.{Rowing, rowing-start, rowing-end, rowing-refused, rowing-on, row-took}
+use Rattle.taking.proofs.Rows.{Rowing, rowing-start, rowing-end, rowing-refused, rowing-on, row-took}
 
 abbrev Inv-loop : tie.InvT-loop
 Inv-loop s from role pend extra left slots n window₀ at₀ p₀ l₀ entries₀ window at p l entries = Rowing s slots (roleOf role) extra from pend left window₀ n window at p l entries

@@ -1,13 +1,13 @@
--- `judge::judge_frames` meets its contract: chunk by chunk.
+-- `taking::judge_frames` meets its contract: chunk by chunk.
 use borrow.Author.Needs.{needs}
-use Rattle.judge.proofs.judge_frames.Statement.{statement}
-use Rattle.judge.proofs.judge_frames.Tie as tie
+use Rattle.taking.proofs.judge_frames.Statement.{statement}
+use Rattle.taking.proofs.judge_frames.Tie as tie
 use denote.Ref.{now}
 use Prim.Native.Nat.{_-_}
 use lib.ListN.{length}
 use native.Mathlib.Omega.{arith}
 use Rattle.pieces.proofs.Nodes.{part-found}
-use Rattle.judge.proofs.Feeding.{Framing, framing-start, framing-wrong, framing-last, last-took, framing-stop, framing-on}
+use Rattle.taking.proofs.Frames.{Framing, framing-start, framing-wrong, framing-last, last-took, framing-stop, framing-on}
 
 abbrev Inv-loop : tie.InvT-loop
 Inv-loop s from room n at₀ total₀ at total = Framing s room from n at total

@@ -1,9 +1,9 @@
 -- What a string or a chunk is taken for, in each case.
-use Prim.Native.Nat.{ℕ, suc, _+_, _-_, _*_, _≤_, _<_}
-use mathlib.Core.Path.{_≡_, sym, _∙_, ap}
-use mathlib.Core.List.{List, _∷_}
+use Prim.Native.Nat.{ℕ, zero, suc, _+_, _-_, _*_, _≤_, _<_}
+use mathlib.Core.Path.{_≡_, refl, _∙_, ap}
+use mathlib.Core.List.{List, [], _∷_}
 use mathlib.Core.Bool.{Bool, true, false, not}
-use lib.ListN.{length, set, take, drop}
+use lib.ListN.{set, take, drop}
 use lib.Seq.{sets}
 use borrow.Author.Tests.{le-leb, lt-leb}
 use native.Mathlib.Omega.{arith}
@@ -13,12 +13,11 @@ use Rattle.layouts.specs.declared.Record.{Record}
 use Rattle.layouts.specs.Primitive.{Result, ok}
 use Rattle.layouts.specs.declared.Refusal.{Refusal}
 use Rattle.layouts.specs.Refusal.{plain, refusedBy}
-use Rattle.layouts.specs.Record.{entered, withEntries, withPayload}
-use Rattle.layouts.specs.Judge.{Ended, notText, textTaken, halfTaken, chunkTaken, entriesOf}
-use Rattle.layouts.specs.Pieces.{Pieces, text}
+use Rattle.layouts.specs.Record.{isKept, entered, withEntries, withPayload}
+use Rattle.layouts.specs.Judge.{Ended, notText, textTaken, halfTaken, chunkTaken, entry}
 use Rattle.table.specs.Table.{roleOf}
 use Rattle.table.proofs.Roles.{kept-from, kept-below, decoded-some}
-use Rattle.judge.specs.Judged.{inWindow, ahead}
+use Rattle.taking.specs.Taking.{inWindow}
 
 module _ (s : List ℕ) (role start len : ℕ) where
   pub any-text : role ≡ 0 → false ≡ notText s (roleOf role) start len
@@ -60,13 +59,18 @@ module _ (s : List ℕ) (role start len : ℕ) where
 
   -- ---- and the window
   module _ (w : List ℕ) (n : ℕ) where
-    pub passed-in : role < 2 → (p : Pieces) → ahead w n (text (roleOf role) start len p) ≡ ahead w n p
-    unfolding entriesOf
-    passed-in h p = rw (kept-below role h)
+    pub passed-in : role < 2 → (es : List ℕ) → inWindow w n (entry (isKept (roleOf role)) start len es) ≡ inWindow w n es
+    passed-in h es = rw (kept-below role h)
 
-    pub kept-in : (w' : List ℕ) → 2 ≤ role → ((es : List ℕ) → inWindow w n (start ∷ len ∷ es) ≡ inWindow w' (n + 1) es) → (p : Pieces) → ahead w n (text (roleOf role) start len p) ≡ ahead w' (n + 1) p
-    unfolding entriesOf
-    kept-in w' h k p = rw (kept-from role h) (k (entriesOf p))
+    pub kept-in : (w' : List ℕ) → 2 ≤ role → ((es : List ℕ) → inWindow w n (start ∷ len ∷ es) ≡ inWindow w' (n + 1) es) → (es : List ℕ) → inWindow w n (entry (isKept (roleOf role)) start len es) ≡ inWindow w' (n + 1) es
+    kept-in w' h k es = rw (kept-from role h) (k es)
+
+take-none : (n : ℕ) → take {A = ℕ} n [] ≡ []
+take-none zero = refl
+take-none (suc n) = refl
+
+pub nothing-in : (w : List ℕ) (n : ℕ) → inWindow w n [] ≡ w
+nothing-in w n = ap (sets w (2 * n)) (take-none (16 - 2 * n))
 
 module _ (w : List ℕ) (n start len : ℕ) (es : List ℕ) where
   pub keeps-in : n < 8 → inWindow w n (start ∷ len ∷ es) ≡ inWindow (set (set w (2 * n) start) (2 * n + 1) len) (n + 1) es

@@ -1,8 +1,8 @@
--- `judge::half_row` meets its contract: 3 before 1.
+-- `taking::half_row` meets its contract: 3 before 1.
 use borrow.Author.Needs.{needs}
-use Rattle.judge.proofs.half_row.Statement.{statement}
-use Rattle.judge.proofs.half_row.Tie as tie
-use Rattle.judge.proofs.Pieces.{half-bad, half-cut}
+use Rattle.taking.proofs.half_row.Statement.{statement}
+use Rattle.taking.proofs.half_row.Tie as tie
+use Rattle.taking.proofs.Pieces.{half-bad, half-cut}
 
 pub half-row-spec : {M : Type 1} → statement M
 half-row-spec =

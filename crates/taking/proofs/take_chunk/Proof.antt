@@ -1,9 +1,9 @@
--- `judge::take_chunk` meets its contract: 5, or the bytes with its own.
+-- `taking::take_chunk` meets its contract: 5, or the bytes with its own.
 use borrow.Author.Needs.{needs}
-use Rattle.judge.proofs.take_chunk.Statement.{statement}
-use Rattle.judge.proofs.take_chunk.Tie as tie
+use Rattle.taking.proofs.take_chunk.Statement.{statement}
+use Rattle.taking.proofs.take_chunk.Tie as tie
 use native.Mathlib.Omega.{arith}
-use Rattle.judge.proofs.Pieces.{chunk-full, chunk-fits}
+use Rattle.taking.proofs.Pieces.{chunk-full, chunk-fits}
 
 pub take-chunk-spec : {M : Type 1} → statement M
 take-chunk-spec =

@@ -1,9 +1,9 @@
--- `judge::is_bad` meets its contract: by the role; the text is that of the contents.
+-- `taking::is_bad` meets its contract: by the role; the text is that of the contents.
 use borrow.Author.Needs.{needs}
-use Rattle.judge.proofs.is_bad.Statement.{statement}
-use Rattle.judge.proofs.is_bad.Tie as tie
+use Rattle.taking.proofs.is_bad.Statement.{statement}
+use Rattle.taking.proofs.is_bad.Tie as tie
 use denote.Ref.{now}
-use Rattle.judge.proofs.Pieces.{any-text, text-judged}
+use Rattle.taking.proofs.Pieces.{any-text, text-judged}
 
 pub is-bad-spec : {M : Type 1} → statement M
 is-bad-spec =

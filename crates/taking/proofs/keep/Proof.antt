@@ -1,8 +1,8 @@
--- `judge::keep` meets its contract: inside the window, or past its end.
+-- `taking::keep` meets its contract: inside the window, or past its end.
 use borrow.Author.Needs.{needs}
-use Rattle.judge.proofs.keep.Statement.{statement}
-use Rattle.judge.proofs.keep.Tie as tie
-use Rattle.judge.proofs.Pieces.{keeps-in, keeps-none}
+use Rattle.taking.proofs.keep.Statement.{statement}
+use Rattle.taking.proofs.keep.Tie as tie
+use Rattle.taking.proofs.Pieces.{keeps-in, keeps-none}
 
 pub keep-spec : {M : Type 1} → statement M
 keep-spec =

@@ -10,8 +10,8 @@ use Rattle.layouts.specs.Primitive.{numberAt, Result, onward}
 use Rattle.layouts.specs.Refusal.{refusedBy}
 use Rattle.layouts.specs.Shape.{Role, Tree, say}
 use Rattle.layouts.specs.Pieces.{Pieces, text, textOf, afterText, run}
-use Rattle.layouts.specs.Record.{withEntries}
-use Rattle.layouts.specs.Judge.{Ended, textTaken, halfTaken, judgeOf}
+use Rattle.layouts.specs.Record.{blank, isKept, withEntries}
+use Rattle.layouts.specs.Judge.{Ended, textTaken, halfTaken, judgeOf, entry, entriesOf}
 use Rattle.pieces.specs.declared.Text as T
 use Rattle.pieces.specs.declared.Text.the-variants.{Whole, Half, Bad}
 use Rattle.pieces.specs.Pieces.{textFound}
@@ -21,33 +21,37 @@ use Rattle.strings.specs.declared.More.{More}
 use Rattle.strings.specs.declared.More.the-variants as M
 use Rattle.strings.specs.Strings.{row, rowAfter, afterNext}
 use Rattle.strings.proofs.Rows.{row-next}
-use Rattle.judge.specs.declared.Taken.{Taken}
-use Rattle.judge.specs.declared.Taken.the-variants as K
-use Rattle.judge.specs.declared.Row.{Row}
-use Rattle.judge.specs.declared.Row.the-variants as O
-use Rattle.judge.specs.Judged.{ahead, taken, TakenIn, rowTo, rowIn, Takes, RowTook}
+use Rattle.taking.specs.declared.Taken.{Taken}
+use Rattle.taking.specs.declared.Taken.the-variants as K
+use Rattle.taking.specs.declared.Row.{Row}
+use Rattle.taking.specs.declared.Row.the-variants as O
+use Rattle.taking.specs.Taking.{inWindow, ahead, keptBy, keptOf, held, taken, TakenIn, rowTo, rowIn, rowHeld, Takes, RowTook}
+use Rattle.taking.proofs.Pieces.{nothing-in}
 
 -- ---- one string
 pub whole-took : (s : List ℕ) (at : ℕ) (t : T.Text) → t ≡ textFound (textOf (length s) (numberAt s at) at) → (start len next : ℕ) → t ≡ Whole start len next → (at + 8 ≤ next) × (at + 8 ≤ length s)
 whole-took s at t e start len next q = let g = whole-found s at t e start len next q in (g .0, omega (arith, g))
 
-module _ (s : List ℕ) (slots at : ℕ) (m : Role) (w : List ℕ) (n : ℕ) (w' : List ℕ) (t : T.Text) (e : t ≡ textFound (textOf (length s) (numberAt s at) at)) where
-  abbrev OfText : Row → Type 0
-  OfText r = Takes s slots at (say m) w n w' r
+module _ (s : List ℕ) (slots at : ℕ) (m : Role) (w : List ℕ) (n : ℕ) (t : T.Text) (e : t ≡ textFound (textOf (length s) (numberAt s at) at)) where
+  abbrev OfText : List ℕ → Row → Type 0
+  OfText w' r = Takes s slots at (say m) w n w' r
 
   says : (y : T.Text) → t ≡ y → (room : ℕ) (x : Record) (k : Unit {0} → Tree)
       → judgeOf s slots room x (run (say m k) s at) ≡ judgeOf s slots room x (afterText (textRead y) m (λ a. run (k tt) s a))
   says y q room x k = ap (judgeOf s slots room x) (say-as s at t e y q m k)
 
-  pub of-bad : (r : Refusal) → t ≡ Bad r → OfText (O.Refused r)
-  unfolding afterText judgeOf
-  of-bad r q = record { judges = λ room k x z. rw (bad-plain s at t e r q) (says (Bad r) q room x k); keeps = λ k. tt }
+  found-held : (y : T.Text) → t ≡ y → (k : Unit {0} → Tree) → held s slots w n (run (say m k) s at) ≡ held s slots w n (afterText (textRead y) m (λ a. run (k tt) s a))
+  found-held y q k = ap (held s slots w n) (say-as s at t e y q m k)
 
-  pub of-half : (start len : ℕ) (r : Refusal) → t ≡ Half start len → _≡_ {A = Result Ended} (refusedBy r) (halfTaken s m start len) → OfText (O.Refused r)
-  unfolding afterText judgeOf
-  of-half start len r q h = record { judges = λ room k x z. says (Half start len) q room x k ∙ sym h; keeps = λ k. tt }
+  pub of-bad : (r : Refusal) → t ≡ Bad r → OfText w (O.Refused r)
+  unfolding afterText judgeOf keptOf
+  of-bad r q = record { judges = λ room k x z. rw (bad-plain s at t e r q) (says (Bad r) q room x k); keeps = λ k. tt; holds = λ k. found-held (Bad r) q k ∙ nothing-in w n }
 
-  module _ (start len next : ℕ) (q : t ≡ Whole start len next) (o : Taken)
+  pub of-half : (start len : ℕ) (r : Refusal) → t ≡ Half start len → _≡_ {A = Result Ended} (refusedBy r) (halfTaken s m start len) → OfText w (O.Refused r)
+  unfolding afterText judgeOf keptOf
+  of-half start len r q h = record { judges = λ room k x z. says (Half start len) q room x k ∙ sym h; keeps = λ k. tt; holds = λ k. found-held (Half start len) q k ∙ nothing-in w n }
+
+  module _ (start len next : ℕ) (q : t ≡ Whole start len next) (o : Taken) (w' : List ℕ) (g : TakenIn w n m start len w' o)
       (h : (x : Record) → x .entries ≡ n → taken (withEntries x) o ≡ textTaken s slots x m start len) where
     took : (y : Taken) → o ≡ y → (room : ℕ) (k : Unit {0} → Tree) (x : Record) → x .entries ≡ n
         → judgeOf s slots room x (run (say m k) s at) ≡ onward (taken (withEntries x) y) (λ x'. judgeOf s slots room x' (run (k tt) s next))
@@ -59,13 +63,29 @@ module _ (s : List ℕ) (slots at : ℕ) (m : Role) (w : List ℕ) (n : ℕ) (w'
     unfolding afterText
     whole-as k = say-as s at t e (Whole start len next) q m k
 
-    pub of-refused : (r : Refusal) → o ≡ K.Refused r → OfText (O.Refused r)
-    of-refused r i = record { judges = λ room k x z. took (K.Refused r) i room k x z; keeps = λ k. tt }
+    abbrev entries : Result Record → (Unit {0} → Tree) → List ℕ
+    entries u k = keptBy u (λ n'. entry (isKept m) start len (keptOf s slots n' (run (k tt) s next)))
 
-    pub of-whole : (n' : ℕ) → o ≡ K.Fine n' → TakenIn w n m start len w' o → OfText (O.Past next n')
-    of-whole n' i g =
-        let kept : (p : Pieces) → ahead w n (text m start len p) ≡ ahead w' n' p = subst (TakenIn w n m start len w') i g in
-        record { judges = λ room k x z. took (K.Fine n') i room k x z; keeps = λ k. ap (ahead w n) (whole-as k) ∙ kept (run (k tt) s next) }
+    held-as : (y : Taken) → o ≡ y → (k : Unit {0} → Tree) → held s slots w n (run (say m k) s at) ≡ inWindow w n (entries (taken (withEntries (withEntries blank n)) y) k)
+    unfolding keptOf
+    held-as y i k =
+        ap (held s slots w n) (whole-as k)
+        ∙ ap (λ (u : Result Record). inWindow w n (entries u k)) (sym (h (withEntries blank n) refl) ∙ ap (taken (withEntries (withEntries blank n))) i)
+
+    pub of-refused : (r : Refusal) → o ≡ K.Refused r → OfText w' (O.Refused r)
+    of-refused r i =
+        let same : w' ≡ w = subst (TakenIn w n m start len w') i g in
+        record { judges = λ room k x z. took (K.Refused r) i room k x z; keeps = λ k. tt; holds = λ k. held-as (K.Refused r) i k ∙ nothing-in w n ∙ sym same }
+
+    pub of-whole : (n' : ℕ) → o ≡ K.Fine n' → OfText w' (O.Past next n')
+    unfolding entriesOf
+    of-whole n' i =
+        let kept : (es : List ℕ) → inWindow w n (entry (isKept m) start len es) ≡ inWindow w' n' es = subst (TakenIn w n m start len w') i g in
+        record {
+          judges = λ room k x z. took (K.Fine n') i room k x z;
+          keeps = λ k. ap (ahead w n) (whole-as k) ∙ kept (entriesOf (run (k tt) s next));
+          holds = λ k. held-as (K.Fine n') i k ∙ kept (keptOf s slots n' (run (k tt) s next));
+        }
 
 -- ---- a row of them
 pub row-took : (s : List ℕ) (at : ℕ) (r : Row) (at' n : ℕ) → RowTook s at r → r ≡ O.Past at' n → (at + 8 ≤ at') × (at + 8 ≤ length s)
@@ -82,12 +102,13 @@ module _ (s : List ℕ) (slots : ℕ) (m : Role) (e from p₀ l₀ : ℕ) (w₀ 
     pub on : from ≤ at
     pub judges : (room : ℕ) (k : Unit {0} → Tree) (x : Record) → x .entries ≡ n₀ → judgeOf s slots room x (whole k) ≡ judgeOf s slots room (withEntries x n) (left at p l k)
     pub keeps : (k : Unit {0} → Tree) → ahead w₀ n₀ (whole k) ≡ ahead w n (left at p l k)
+    pub holds : (k : Unit {0} → Tree) → held s slots w₀ n₀ (whole k) ≡ held s slots w n (left at p l k)
 
   abbrev OfRow : List ℕ → Row → Type 0
   OfRow w r = Takes s slots from (row m p₀ e l₀) w₀ n₀ w r
 
   pub rowing-start : Rowing w₀ from p₀ l₀ n₀
-  rowing-start = record { on = omega arith; judges = λ room k x z. ap (λ (n : ℕ). judgeOf s slots room (withEntries x n) (whole k)) z; keeps = λ k. refl }
+  rowing-start = record { on = omega arith; judges = λ room k x z. ap (λ (n : ℕ). judgeOf s slots room (withEntries x n) (whole k)) z; keeps = λ k. refl; holds = λ k. refl }
 
   module _ (w : List ℕ) (at p l n : ℕ) (g : Rowing w at p l n) (y : More) (h : y ≡ afterNext p e l) where
     left-as : (v : More) → y ≡ v → (k : Unit {0} → Tree) → left at p l k ≡ run (rowAfter m e k v) s at
@@ -98,6 +119,7 @@ module _ (s : List ℕ) (slots : ℕ) (m : Role) (e from p₀ l₀ : ℕ) (w₀ 
         record {
           judges = λ room k x z. g .judges room k x z ∙ ap (judgeOf s slots room (withEntries x n)) (left-as M.None q k);
           keeps = λ k. g .keeps k ∙ ap (ahead w n) (left-as M.None q k);
+          holds = λ k. g .holds k ∙ ap (held s slots w n) (left-as M.None q k);
         }
 
     module _ (p' l' : ℕ) (q : y ≡ M.String p' l') (w' : List ℕ) (r : Row) (t : Takes s slots at (say m) w n w' r) where
@@ -107,8 +129,12 @@ module _ (s : List ℕ) (slots : ℕ) (m : Role) (e from p₀ l₀ : ℕ) (w₀ 
           g .judges room k x z ∙ ap (judgeOf s slots room (withEntries x n)) (left-as (M.String p' l') q k)
           ∙ t .judges room (λ u. row m p' e l' k) (withEntries x n) refl ∙ ap (rowTo s slots room (withEntries x n) (λ u. row m p' e l' k)) i
 
+      held-on : (v : Row) → r ≡ v → (k : Unit {0} → Tree) → held s slots w₀ n₀ (whole k) ≡ rowHeld s slots w' (λ u. row m p' e l' k) v
+      held-on v i k =
+          g .holds k ∙ ap (held s slots w n) (left-as (M.String p' l') q k) ∙ t .holds (λ u. row m p' e l' k) ∙ ap (rowHeld s slots w' (λ u. row m p' e l' k)) i
+
       pub rowing-refused : (x : Refusal) → r ≡ O.Refused x → OfRow w' (O.Refused x)
-      rowing-refused x i = record { judges = λ room k y z. judged (O.Refused x) i room k y z; keeps = λ k. tt }
+      rowing-refused x i = record { judges = λ room k y z. judged (O.Refused x) i room k y z; keeps = λ k. tt; holds = λ k. held-on (O.Refused x) i k }
 
       module _ (at' n' : ℕ) (i : r ≡ O.Past at' n') (o : RowTook s at r) where
         kept : (k : Unit {0} → Tree) → ahead w n (run (say m (λ u. row m p' e l' k)) s at) ≡ ahead w' n' (left at' p' l' k)
@@ -122,4 +148,5 @@ module _ (s : List ℕ) (slots : ℕ) (m : Role) (e from p₀ l₀ : ℕ) (w₀ 
               on = omega (arith, a);
               judges = λ room k x z. judged (O.Past at' n') i room k x z;
               keeps = λ k. g .keeps k ∙ ap (ahead w n) (left-as (M.String p' l') q k) ∙ kept k;
+              holds = λ k. held-on (O.Past at' n') i k;
             }

@@ -1,11 +1,11 @@
--- `judge::drop_number` meets its contract: a number, or none.
+-- `taking::drop_number` meets its contract: a number, or none.
 use borrow.Author.Needs.{needs}
-use Rattle.judge.proofs.drop_number.Statement.{statement}
-use Rattle.judge.proofs.drop_number.Tie as tie
+use Rattle.taking.proofs.drop_number.Statement.{statement}
+use Rattle.taking.proofs.drop_number.Tie as tie
 use denote.Ref.{now}
 use native.Mathlib.Omega.{arith}
 use Rattle.pieces.proofs.Numbers.{number-known}
-use Rattle.judge.proofs.Feeding.{dropped-cut, dropped-value, value-took}
+use Rattle.taking.proofs.Numbers.{dropped-cut, dropped-value, value-took}
 
 pub drop-number-spec : {M : Type 1} → statement M
 drop-number-spec =
