@@ -20,9 +20,14 @@ fn number(n: u64) {
     say(b" ");
 }
 
+// Words and a number.
+fn tell(words: &[u8], n: u64) {
+    say(words);
+    number(n);
+}
+
 fn refused(r: Refusal) {
-    say(b"refused ");
-    number(r.which);
+    tell(b"refused ", r.which);
     number(r.place as u64);
     say(b"\n");
 }
@@ -63,8 +68,7 @@ fn differences(a: &[u8], b: &[u8]) -> u64 {
 fn written(w: Written) -> usize {
     match w {
         Written::Length(n) => {
-            say(b"written ");
-            number(n as u64);
+            tell(b"written ", n as u64);
             n
         }
         Written::Refused(r) => {
@@ -74,9 +78,23 @@ fn written(w: Written) -> usize {
     }
 }
 
-fn past(next: Cursor) {
-    say(b"ends ");
-    number(next.at as u64);
+fn past(value: u64, next: Cursor) {
+    tell(b"read ", value);
+    tell(b"ends ", next.at as u64);
+}
+
+fn compared(a: &[u8], b: &[u8]) {
+    tell(b"differences ", differences(a, b));
+    say(b"\n");
+}
+
+// The contents from a place on, held against what was written.
+fn contents_back(s: &[u8], start: usize, c: &[u8]) {
+    if start <= s.len() {
+        compared(c, &s[start..]);
+        return;
+    }
+    say(b"\n");
 }
 
 // The string at the start of a stream, held against what was written.
@@ -84,14 +102,8 @@ fn string_back(s: &[u8], c: &[u8]) {
     let start = Cursor { at: 0 };
     match start.read_string(s) {
         Spanned::Contents { start, len, next } => {
-            say(b"read ");
-            number(len as u64);
-            past(next);
-            if start <= s.len() {
-                say(b"differences ");
-                number(differences(c, &s[start..]));
-            }
-            say(b"\n");
+            past(len as u64, next);
+            contents_back(s, start, c);
         }
         Spanned::Refused(r) => refused(r),
     }
@@ -111,66 +123,88 @@ fn a_mebibyte() {
     large_string(&mut c, &mut out);
 }
 
+fn write(words: &[u8], out: &mut [u8], c: &[u8]) {
+    say(words);
+    written(writers::write_string(out, c));
+}
+
 // Three bytes are followed by five of padding; a byte less of room is refused by 10 and changes nothing.
 fn short_strings() {
-    say(b"a string of 3 bytes: ");
     let mut out = [0xFFu8; 16];
-    written(writers::write_string(&mut out, b"bin"));
+    write(b"a string of 3 bytes: ", &mut out, b"bin");
     string_back(&out, b"bin");
-    say(b"its padding: ");
-    number(differences(&out, b"\x03\0\0\0\0\0\0\0bin\0\0\0\0\0"));
-    say(b"differences\nwith room for 15: ");
-    let mut small = [0xFFu8; 15];
-    written(writers::write_string(&mut small, b"bin"));
-    say(b"a byte FF, which is no text: ");
-    written(writers::write_string(&mut out, b"\xFF"));
+    tell(
+        b"its padding: ",
+        differences(&out, b"\x03\0\0\0\0\0\0\0bin\0\0\0\0\0"),
+    );
+    refused_strings(&mut out);
+}
+
+fn refused_strings(out: &mut [u8]) {
+    write(
+        b"differences\nwith room for 15: ",
+        &mut [0xFFu8; 15],
+        b"bin",
+    );
+    write(b"a byte FF, which is no text: ", out, b"\xFF");
 }
 
 // Two strings out of one slice, read back by their entries and written again from there.
 fn a_set() {
     say(b"a set of bin7 and silo: ");
-    let entries = [0u64, 4, 4, 4];
     let mut out = [0u8; 40];
-    written(writers::write_string_set(&mut out, b"bin7silo", &entries, 2));
+    written(writers::write_string_set(&mut out, b"bin7silo", &[0u64, 4, 4, 4], 2));
     let mut found = [0u64; 4];
+    set_back(&out, &mut found);
+    set_again(&out, &found);
+}
+
+fn set_back(out: &[u8], found: &mut [u64]) {
     let start = Cursor { at: 0 };
-    match start.read_string_set(&out, &mut found) {
+    match start.read_string_set(out, found) {
         Read::Value { value, next } => {
-            say(b"read ");
-            number(value);
-            past(next);
-            io::write_all(1, views::entry(&out, &found, 0));
-            say(b" ");
-            io::write_all(1, views::entry(&out, &found, 1));
-            say(b"\n");
+            past(value, next);
+            set_shown(out, found);
         }
         Read::Refused(r) => refused(r),
     }
+}
+
+fn set_shown(out: &[u8], found: &[u64]) {
+    io::write_all(1, views::entry(out, found, 0));
+    say(b" ");
+    io::write_all(1, views::entry(out, found, 1));
+    say(b"\n");
+}
+
+fn set_again(out: &[u8], found: &[u64]) {
     say(b"the same, from the stream and its entries: ");
     let mut again = [0xFFu8; 40];
-    written(writers::write_string_set(&mut again, &out, &found, 2));
-    say(b"differences ");
-    number(differences(&out, &again));
-    say(b"\n");
+    written(writers::write_string_set(&mut again, out, found, 2));
+    compared(out, &again);
 }
 
 // Two chunks of 32768 bytes, one of 4464, and the zero.
 fn framed() {
-    say(b"framed data of 70000 bytes: ");
     let mut c = [0u8; 70000];
-    letters(&mut c);
     let mut out = [0u8; 70032];
-    written(writers::write_framed(&mut out, &c));
     let mut back = [0u8; 70000];
+    frames(&mut c, &mut out, &mut back);
+}
+
+fn frames(c: &mut [u8; 70000], out: &mut [u8; 70032], back: &mut [u8; 70000]) {
+    say(b"framed data of 70000 bytes: ");
+    letters(c);
+    written(writers::write_framed(out, c));
+    frames_back(out, back, c);
+}
+
+fn frames_back(s: &[u8], back: &mut [u8], c: &[u8]) {
     let start = Cursor { at: 0 };
-    match start.read_framed(&out, &mut back) {
+    match start.read_framed(s, back) {
         Read::Value { value, next } => {
-            say(b"read ");
-            number(value);
-            past(next);
-            say(b"differences ");
-            number(differences(&c, &back));
-            say(b"\n");
+            past(value, next);
+            compared(c, back);
         }
         Read::Refused(r) => refused(r),
     }
@@ -187,17 +221,27 @@ fn a_large_count() {
     }
 }
 
-fn texts() {
+fn text(words: &[u8], out: &[u8], w: Written) {
+    say(words);
+    line(out, written(w));
+}
+
+fn mode(words: &[u8], n: u64) {
     let mut out = [b'.'; 24];
-    say(b"mode 1: ");
-    let n = written(writers::write_mode(&mut out, 1));
-    line(&out, n);
-    say(b"mode 2^64 - 1: ");
-    let n = written(writers::write_mode(&mut out, 18446744073709551615));
-    line(&out, n);
-    say(b"10 paths: ");
-    let n = written(writers::write_paths(&mut out, 10));
-    line(&out, n);
+    let w = writers::write_mode(&mut out, n);
+    text(words, &out, w);
+}
+
+fn paths(words: &[u8], n: u64) {
+    let mut out = [b'.'; 24];
+    let w = writers::write_paths(&mut out, n);
+    text(words, &out, w);
+}
+
+fn texts() {
+    mode(b"mode 1: ", 1);
+    mode(b"mode 2^64 - 1: ", 18446744073709551615);
+    paths(b"10 paths: ", 10);
 }
 
 fn line(s: &[u8], n: usize) {
