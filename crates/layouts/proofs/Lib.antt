@@ -16,3 +16,4 @@ pub mod RoundTrip
 pub mod Stderr
 pub mod Talk
 pub mod Examples
+pub mod Unique

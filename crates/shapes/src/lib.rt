@@ -90,7 +90,7 @@ fn read_brief(
     }
 }
 
-// An unknown operation is refused before any byte. The same lines stand in both: LLVM puts what has one caller into it, and so a short call is no call.
+// An unknown operation is refused before any byte. `read_reply` has the same lines: with one caller each, LLVM puts both into the exported functions.
 pub fn read_arguments(
     op: u64,
     major: u16,
