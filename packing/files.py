@@ -15,13 +15,13 @@ use Rattle.table.specs.Numbered.{Numbered, just, byVersion, byFlag}
 abbrev pub size : ℕ
 size = $size
 
--- the runs of the layouts, then their fields
+-- the groups of the layouts, then their fields
 abbrev pub packedList : List ℕ
 packedList =
 $packed
     []
 
--- number; runs of arguments, skipped arguments, reply; the codes of their kinds
+-- number; groups of arguments, skipped arguments, reply; the codes of their kinds
 abbrev op : (number arguments skipped reply argumentsKind skippedKind replyKind : ℕ) → Row
 op n a k r ak kk rk = record { number = n; arguments = a; skipped = k; reply = r; «arguments_kind» = ak; «skipped_kind» = kk; «reply_kind» = rk }
 
@@ -30,7 +30,7 @@ rows =
 $rows
     []
 
--- the runs of the other layouts
+-- the groups of the other layouts
 $others
 
 -- the kinds that a version or a flag decides; their codes count from here on
@@ -47,7 +47,7 @@ unfoldable pub packedTable : List ℕ
 packedTable = packedList
 """
 
-CODES = """// $made: the runs of the layouts and then their fields, packed. A match becomes one load.
+CODES = """// $made: the groups of the layouts and then their fields, packed. A match becomes one load.
 ghost use mathlib.Core.Path.{_≡_};
 ghost use lib.ListN.{getD};
 ghost use Rattle.table.specs.Packed.{packedList};
@@ -63,8 +63,8 @@ $arms
 """
 
 CODES_PROOF = """-- $made: an arm of `code` is an entry of the list, and the last arm lies past its end.
-use Rattle.packed.proofs.codes.code.Statement.{statement}
-use Rattle.packed.proofs.codes.code.Tie as tie
+use Rattle.table_code.proofs.packed.code.Statement.{statement}
+use Rattle.table_code.proofs.packed.code.Tie as tie
 use Rattle.table.proofs.Tables.{entry, missed, getD-past}
 use Rattle.table.specs.Packed.{size, packedList}
 
@@ -76,7 +76,7 @@ $arms
     (λ c. let i = c .before .args .i in getD-past packedList i 0 (missed size i (c .match .rest))))
 """
 
-PLACES = """// $made: where the runs of each layout begin.
+PLACES = """// $made: where the groups of each layout begin.
 
 // How many numbers there are. Past its end the table reads as 0, so this is also a place without fields.
 pub const SIZE: usize = $size;
@@ -123,7 +123,7 @@ ROW = """    // $number. Arguments: $arguments_shape. Reply: $reply_shape
     },"""
 
 ROW_CODES = """// $made: the rows of the operations, by number. A match becomes one load.
-ghost use Rattle.operations.specs.Rows.{rowOf};
+ghost use Rattle.table_operations.specs.Rows.{rowOf};
 ghost use Rattle.table.specs.Table.{rowFor};
 ghost use mathlib.Core.Path.{_≡_};
 
@@ -138,12 +138,12 @@ $arms
 """
 
 ROW_CODES_PROOF = """-- $made: `row_code` arm by arm, and no row has another number.
-use Rattle.operations.proofs.codes.row_code.Statement.{statement}
-use Rattle.operations.proofs.codes.row_code.Tie as tie
+use Rattle.table_operations.proofs.rows.row_code.Statement.{statement}
+use Rattle.table_operations.proofs.rows.row_code.Tie as tie
 use mathlib.Core.Path.{refl}
 use Rattle.table.specs.Table.{findIn, rowFor}
-use Rattle.operations.specs.Rows.{rowOf}
-use Rattle.operations.proofs.Search.{arm, none}
+use Rattle.table_operations.specs.Rows.{rowOf}
+use Rattle.table_operations.proofs.Search.{arm, none}
 
 pub row-code-spec : {M : Type 1} → statement M
 unfolding rowOf rowFor findIn
@@ -173,10 +173,10 @@ $arms
 
 KIND_CODES_PROOF = """-- $made: `decided` way by way, and in the last arm the code is none of the list.
 use borrow.Author.Needs.{needs}
-use Rattle.kinds.proofs.codes.decided.Statement.{statement}
-use Rattle.kinds.proofs.codes.decided.Tie as tie
+use Rattle.table_operations.proofs.decided.decided.Statement.{statement}
+use Rattle.table_operations.proofs.decided.decided.Tie as tie
 use Rattle.table.specs.Table.{numberedOf}
-use Rattle.kinds.proofs.Itself.{itself}
+use Rattle.table_operations.proofs.Itself.{itself}
 
 pub decided-spec : {M : Type 1} → statement M
 unfolding numberedOf
@@ -194,7 +194,7 @@ def filled(text, **parts):
     return string.Template(text).substitute(parts, made=MADE)
 
 
-# ---- runs and fields
+# ---- groups and fields
 
 
 def listed(sequences):
@@ -331,11 +331,11 @@ def files(t):
         "crates/table/specs/Packed.antt": packed(t),
         "crates/table/src/places.rt": places(t),
         "crates/table/src/kinds.rt": kinds(t),
-        "crates/packed/src/codes.rt": codes(t.packed),
-        "crates/packed/proofs/codes/code/Proof.antt": codes_proof(t.packed),
-        "crates/rows/src/operations.rt": operations(t),
-        "crates/operations/src/codes.rt": row_codes(t),
-        "crates/operations/proofs/codes/row_code/Proof.antt": row_codes_proof(t),
-        "crates/kinds/src/codes.rt": kind_codes(t),
-        "crates/kinds/proofs/codes/decided/Proof.antt": kind_codes_proof(t),
+        "crates/table_code/src/packed.rt": codes(t.packed),
+        "crates/table_code/proofs/packed/code/Proof.antt": codes_proof(t.packed),
+        "crates/table_code/src/operations.rt": operations(t),
+        "crates/table_operations/src/rows.rt": row_codes(t),
+        "crates/table_operations/proofs/rows/row_code/Proof.antt": row_codes_proof(t),
+        "crates/table_operations/src/decided.rt": kind_codes(t),
+        "crates/table_operations/proofs/decided/decided/Proof.antt": kind_codes_proof(t),
     }

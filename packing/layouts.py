@@ -117,8 +117,8 @@ def known(table, name):
 
 def letters_of(items):
     parts = []
-    for gate, run in itertools.groupby(items, lambda item: (item.name, *item.args[:-1])):
-        whats = [item.args[-1] for item in run]
+    for gate, same in itertools.groupby(items, lambda item: (item.name, *item.args[:-1])):
+        whats = [item.args[-1] for item in same]
         letters = " ".join(known(LETTERS, (what.name, *(arg.name for arg in what.args[:1]))) for what in whats)
         parts.append(letters if gate[0] == "always" else f"{gate[0]} 1.{gate[1]} {letters}")
     return ", ".join(parts) or "nothing"
@@ -184,8 +184,8 @@ class Sequences:
         return len(self.numbers) - len(numbers)
 
 
-# what a run is multiplied by to make room for its kind and slot
-RUN_UNIT = 4 * 64
+# what a group is multiplied by to make room for its kind and slot
+GROUP_UNIT = 4 * 64
 
 
 class Tables:
@@ -193,7 +193,7 @@ class Tables:
         self.rows, self.others = rows_wanted(), others_wanted()
         self.names = layout_names(self.rows, self.others)
         layouts = [row[column] for row in self.rows for column in LAYOUTS] + list(self.others.values())
-        self.fields, self.runs = Sequences(), Sequences()
+        self.fields, self.groups = Sequences(), Sequences()
         # the longest first, so that others can be the end of one
         for items in sorted((group.args[-1] for groups in layouts for group in groups), key=len, reverse=True):
             within(f"the fields {letters_of(items)}", self.place_fields, items)
@@ -203,19 +203,19 @@ class Tables:
         self.kinds = [kind for kind in dict.fromkeys(kinds) if kind.name != "just"]
 
     def joined_tables(self):
-        """The runs and, behind them, the fields. Only now it is known where these begin."""
-        behind, joined = len(self.runs.numbers), Sequences()
-        joined.numbers = [code and code + RUN_UNIT * behind for code in self.runs.numbers] + self.fields.numbers
-        joined.begun = {**self.runs.begun, **{behind + at: text for at, text in self.fields.begun.items()}}
+        """The groups and, behind them, the fields. Only now it is known where these begin."""
+        behind, joined = len(self.groups.numbers), Sequences()
+        joined.numbers = [code and code + GROUP_UNIT * behind for code in self.groups.numbers] + self.fields.numbers
+        joined.begun = {**self.groups.begun, **{behind + at: text for at, text in self.fields.begun.items()}}
         return joined
 
     def place_fields(self, items):
         return self.fields.place(map(field_code, items), letters_of(items))
 
     def place_runs(self, groups):
-        return self.runs.place(map(self.run_code, groups), shape_of(groups))
+        return self.groups.place(map(self.group_code, groups), shape_of(groups))
 
-    def run_code(self, group):
+    def group_code(self, group):
         slot = sum(map(slot_of, group.args[:-1]))
         return joined(("a kind", known(GROUPS, group.name), 4), ("a slot", slot, 64), ("a place of fields", self.place_fields(group.args[-1]), 2**55))
 
@@ -235,6 +235,6 @@ class Tables:
         return [row["code"], *(self.places[row[column]] for column in LAYOUTS), *(self.kind_code(row[column]) for column in ANSWERS)]
 
     def row_code(self, row):
-        parts = [("a place of runs or a code of a kind", number, 256) for number in self.row_numbers(row)[1:]]
+        parts = [("a place of groups or a code of a kind", number, 256) for number in self.row_numbers(row)[1:]]
         # 1 above all: no row is 0
         return within(f"operation {row['code']}", joined, *parts, ("a row", 1, 2))

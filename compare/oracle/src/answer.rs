@@ -1,59 +1,11 @@
 //! One request, one answer.
-use crate::line::Line;
 use crate::request::Request;
-use crate::wire_async::{AsyncWireReader, MemReader};
 use crate::{conversation, primitives};
-use anyhow::Result;
 use std::any::Any;
-use std::fmt;
-use std::future::Future;
 use std::panic;
-use std::pin::pin;
-use std::task::{Context, Poll, Waker};
 
-pub enum Answer {
-    Ok(Line),
-    No,
-    /// Outside the domain of the comparison.
-    Out,
-    /// A panic that the domain does not explain.
-    Panic,
-}
-
-impl From<Result<Line>> for Answer {
-    fn from(r: Result<Line>) -> Answer {
-        r.map_or(Answer::No, Answer::Ok)
-    }
-}
-
-impl fmt::Display for Answer {
-    fn fmt(&self, f: &mut fmt::Formatter) -> fmt::Result {
-        match self {
-            Answer::Ok(line) => line.fmt(f),
-            Answer::No => f.write_str("no"),
-            Answer::Out => f.write_str("out"),
-            Answer::Panic => f.write_str("panic"),
-        }
-    }
-}
-
-pub type Reader = AsyncWireReader<MemReader>;
-
-pub fn over(stream: &[u8]) -> Reader {
-    AsyncWireReader::new(MemReader::new(stream.to_vec()))
-}
-
-pub fn position(r: &Reader) -> usize {
-    r.inner_ref().position()
-}
-
-/// MemReader never answers Pending, so one poll ends each future.
-pub fn run<F: Future>(f: F) -> F::Output {
-    match pin!(f).poll(&mut Context::from_waker(Waker::noop())) {
-        Poll::Ready(r) => r,
-        Poll::Pending => unreachable!("MemReader is never pending"),
-    }
-}
+pub use crate::line::Answer;
+pub use crate::reader::{over, position, run, Reader};
 
 fn by_call(q: &Request) -> Answer {
     match q.call {

@@ -1,8 +1,8 @@
 //! Calls 1 to 8, nix-wire's protocol.rs: how its answers become kind, numbers, counts and strings.
-use crate::answer::{over, position, run, Answer};
-use crate::line::Line;
+use crate::line::{Answer, Line};
 use crate::ops::Op;
 use crate::protocol::{self, HandshakeInfo, StderrResult};
+use crate::reader::{over, position, run};
 use crate::request::Request;
 use crate::script::{ErrorInfo, FramedData, OpCall, PathInfoResult, ResultData};
 use anyhow::Result;

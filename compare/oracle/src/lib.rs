@@ -16,6 +16,7 @@ pub mod generate;
 mod layouts;
 pub mod line;
 mod primitives;
+mod reader;
 pub mod request;
 mod stream;
 mod tables;

@@ -1,4 +1,5 @@
 //! What nix-wire answered, in the probe's form. nix-wire has no entries: in their place stand the strings, `t=HEX,HEX,`, in reading order.
+use anyhow::Result;
 use std::fmt;
 
 #[derive(Default)]
@@ -80,5 +81,31 @@ impl fmt::Display for Line {
         }
         f.write_str(" p=")?;
         hex(f, &self.payload)
+    }
+}
+
+pub enum Answer {
+    Ok(Line),
+    No,
+    /// Outside the domain of the comparison.
+    Out,
+    /// A panic that the domain does not explain.
+    Panic,
+}
+
+impl From<Result<Line>> for Answer {
+    fn from(r: Result<Line>) -> Answer {
+        r.map_or(Answer::No, Answer::Ok)
+    }
+}
+
+impl fmt::Display for Answer {
+    fn fmt(&self, f: &mut fmt::Formatter) -> fmt::Result {
+        match self {
+            Answer::Ok(line) => line.fmt(f),
+            Answer::No => f.write_str("no"),
+            Answer::Out => f.write_str("out"),
+            Answer::Panic => f.write_str("panic"),
+        }
     }
 }

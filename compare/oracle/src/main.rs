@@ -1,5 +1,5 @@
 //! `oracle generate SEED COUNT` writes requests for the probe; `oracle answer` reads requests and writes what nix-wire answers, a line for each.
-//! docs/DECISIONS.md, "The probe", has the form of requests and lines.
+//! crates/probe/README.md has the form of requests and lines.
 use oracle::request::Request;
 use oracle::{answer, generate};
 use std::io::{self, BufWriter, Write};

@@ -1,8 +1,8 @@
 //! Calls 9 to 33: nix-wire's wire_async.rs and wire.rs, and the small modules.
-use crate::answer::{over, position, run, Answer};
 use crate::handshake::ProtocolVersion;
-use crate::line::Line;
+use crate::line::{Answer, Line};
 use crate::ops::Op;
+use crate::reader::{over, position, run};
 use crate::request::Request;
 use crate::script::OpCall;
 use crate::{protocol, wire};

@@ -4,12 +4,12 @@ use mathlib.Core.List.{List}
 use contract.Lifetimes.{Lfts}
 use borrow.Fn.Kinds.{PK, RK, Out, Dens, resT, endedOf}
 use denote.Triple.Clauses.{AtExit}
-use Rattle.codes.proofs.stderr.StderrCode.from_u64.Reads as from-u64
-use Rattle.codes.proofs.stderr.StderrCode.from_u64.Kinds as from-u64-kinds
-use Rattle.codes.proofs.stderr.StderrCode.number.Reads as number
-use Rattle.codes.proofs.stderr.StderrCode.number.Kinds as number-kinds
-use Rattle.codes.proofs.stderr.StderrCode.is_terminal.Reads as is-terminal
-use Rattle.codes.proofs.stderr.StderrCode.is_terminal.Kinds as is-terminal-kinds
+use Rattle.codes.proofs.StderrCode.from_u64.Reads as from-u64
+use Rattle.codes.proofs.StderrCode.from_u64.Kinds as from-u64-kinds
+use Rattle.codes.proofs.StderrCode.number.Reads as number
+use Rattle.codes.proofs.StderrCode.number.Kinds as number-kinds
+use Rattle.codes.proofs.StderrCode.is_terminal.Reads as is-terminal
+use Rattle.codes.proofs.StderrCode.is_terminal.Kinds as is-terminal-kinds
 
 -- two answers to the same arguments; no function here has a reference, so that no lifetime and no exit matters
 abbrev pub Determined : (ps : List (PK 0)) (k : RK 0) → Out 0 ps k → Type 0

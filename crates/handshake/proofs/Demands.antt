@@ -13,9 +13,9 @@ use Rattle.layouts.specs.Primitive.{version, Result}
 use Rattle.layouts.specs.Calls as L
 use Rattle.layouts.specs.Record.{blank}
 use Rattle.layouts.specs.Handshake.{hear, heardEntries, handshake, daemonHandshake, parseHandshake, parseDaemonHandshake}
-use Rattle.judge.specs.declared.Answer.{Answer}
-use Rattle.judge.specs.declared.Outcome.the-variants.{Fine, Refused}
-use Rattle.judge.proofs.Answers.{answer-fine, refused-keeps, fine-reports, beyond}
+use Rattle.walk_judge.specs.declared.Answer.{Answer}
+use Rattle.walk_judge.specs.declared.Outcome.the-variants.{Fine, Refused}
+use Rattle.walk_judge.proofs.Answers.{answer-fine, refused-keeps, fine-reports, beyond}
 use Rattle.handshake.proofs.Room.{handshake-counted, daemon-counted}
 use Rattle.handshake.proofs.parse_handshake.Reads as parse-handshake
 use Rattle.handshake.proofs.parse_handshake.Kinds as parse-handshake-kinds

@@ -1,47 +1,38 @@
 -- Filling after a handshake was judged: the lent entries afterwards, as numbers and as their bytes.
 use Prim.Native.Nat.{ℕ, _*_, _/_, _≤_}
-use mathlib.Core.Path.{_≡_, refl, _∙_, ap, subst}
+use mathlib.Core.Path.{_≡_, refl, sym, _∙_, ap, subst}
 use mathlib.Core.List.{List, [], _++_}
+use mathlib.Core.Bool.{Bool, true, false}
 use native.Mathlib.Omega.{arith}
 use lib.ListN.{length}
 use lib.Seq.{sets}
 use Rattle.layouts.specs.declared.Refusal.{Refusal}
 use Rattle.layouts.specs.Primitive.{Version, Result, ok, refused}
 use Rattle.layouts.specs.Record.{blank}
-use Rattle.layouts.specs.Pieces.{Pieces}
 use Rattle.layouts.specs.Judge.{entriesOf, lentAfter}
 use Rattle.layouts.specs.Calls as L
 use Rattle.layouts.specs.Handshake.{hear, heardEntries, handshake, daemonHandshake, parseHandshake, parseDaemonHandshake}
 use Rattle.layouts.proofs.Placed.{never-both}
-use Rattle.items.specs.Items.{versionOf, firstOf, layoutPieces, piecesOf}
-use Rattle.items.proofs.Trees.{pieces-of}
-use Rattle.judge.specs.declared.Outcome.the-variants.{Fine, Refused}
-use Rattle.judge.specs.declared.Answer.{Answer}
-use Rattle.judge.specs.Judged.{answerAs}
-use Rattle.judge.proofs.Answers.{never, answer-fine}
-use Rattle.output.specs.Numbers.{bytesOf}
-use Rattle.output.proofs.Numbers.{bytes-join}
-use Rattle.rooms.specs.Rooms.{Put, slotsIn, filledAfter}
-use Rattle.rooms.proofs.Laws.{put-join, put-sets, with-words, with-bytes}
+use Rattle.walk_items.specs.Items.{piecesOf}
+use Rattle.walk_judge.specs.declared.Outcome.the-variants.{Fine, Refused}
+use Rattle.walk_judge.specs.declared.Answer.{Answer}
+use Rattle.walk_judge.specs.Judged.{answerAs}
+use Rattle.walk_judge.proofs.Answers.{never, answer-fine}
+use Rattle.writers_output.specs.Numbers.{bytesOf}
+use Rattle.writers_output.proofs.Numbers.{bytes-join}
+use Rattle.walk_rooms.specs.Rooms.{Put, filledAfter}
+use Rattle.entries.specs.Entries.{slotsIn}
+use Rattle.walk_rooms.proofs.Laws.{put-join, put-sets, with-words, with-bytes}
 use Rattle.handshake.specs.declared.Greeted.{Greeted}
-use Rattle.handshake.specs.Greeted.{clientEntries, daemonEntries, reported}
+use Rattle.handshake.specs.Greeted.{keptBy, reported, parsed, entriesBy}
 use Rattle.handshake.proofs.Room.{Counted, handshake-counted, daemon-counted}
 
--- a turn's entries, by a layout that was made of a version and a place; and two turns, one after the other
-module _ (form : List ℕ → List ℕ) where
-  pub one-turn : (lent : List ℕ) (n : ℕ) (out : List ℕ) (m l : ℕ) (v : Version) (i : ℕ) (s : List ℕ) (at : ℕ) → (versionOf l ≡ v) × (firstOf l ≡ i)
-      → Put lent n (form (entriesOf (piecesOf l s at))) out m → Put lent n (form (entriesOf (layoutPieces v i s at))) out m
-  one-turn lent n out m l v i s at e p = subst (λ (x : Pieces). Put lent n (form (entriesOf x)) out m) (pieces-of l v i e s at) p
-
-  pub two-turns : ((xs ys : List ℕ) → form (xs ++ ys) ≡ form xs ++ form ys)
-      → (lent : List ℕ) (n : ℕ) (mid : List ℕ) (m : ℕ) (out : List ℕ) (k l l' : ℕ) (v : Version) (i i' : ℕ) (s : List ℕ) (at at' : ℕ)
-      → (versionOf l ≡ v) × (firstOf l ≡ i) → Put lent n (form (entriesOf (piecesOf l s at))) mid m
-      → (versionOf l' ≡ v) × (firstOf l' ≡ i') → Put mid m (form (entriesOf (piecesOf l' s at'))) out k
-      → Put lent n (form (entriesOf (layoutPieces v i s at) ++ entriesOf (layoutPieces v i' s at'))) out k
-  two-turns j lent n mid m out k l l' v i i' s at at' e p e' p' =
-      rw (j (entriesOf (layoutPieces v i s at)) (entriesOf (layoutPieces v i' s at')))
-      (put-join lent n (form (entriesOf (layoutPieces v i s at))) mid m (form (entriesOf (layoutPieces v i' s at'))) out k
-      (one-turn lent n mid m l v i s at e p) (one-turn mid m out k l' v i' s at' e' p'))
+-- the entries of three turns one after the other
+three-turns : (form : List ℕ → List ℕ) → ((xs ys : List ℕ) → form (xs ++ ys) ≡ form xs ++ form ys)
+    → (lent a : List ℕ) (m : ℕ) (b : List ℕ) (n : ℕ) (out : List ℕ) (k : ℕ) (es fs gs : List ℕ)
+    → Put lent 0 (form es) a m → Put a m (form fs) b n → Put b n (form gs) out k → Put lent 0 (form (es ++ (fs ++ gs))) out k
+three-turns form j lent a m b n out k es fs gs p q r =
+    rw (j es (fs ++ gs), j fs gs) (put-join lent 0 (form es) a m (form fs ++ form gs) out k p (put-join a m (form fs) b n (form gs) out k q r))
 
 fine-reported : (o : Result L.Answer) (x : L.Answer) → o ≡ ok x → (es whole : List ℕ) → reported o es ≡ reported o whole → es ≡ whole
 fine-reported (ok a) x e es whole q = q
@@ -73,43 +64,41 @@ module _ (r : Answer) (o : Result L.Answer) (e : r ≡ answerAs o) where
         → (r ≡ answerAs o) × Lent o whole words ws bytes bs
     filled words ws n bytes bs m p p' = (e, (stands (λ x. x) words ws n p, stands bytesOf bytes bs m p'))
 
--- of both handshakes, judged with as many slots as the rooms have
-module _ (g : Greeted) (words bytes : List ℕ) (slots : ℕ) (k : slots ≡ slotsIn words bytes) where
-  module _ (s u : List ℕ) where
-    abbrev Read : (slots : ℕ) (ws bs : List ℕ) → Type 0
-    Read n ws bs = (g .answer ≡ answerAs (parseHandshake s u n)) × Lent (parseHandshake s u n) (heardEntries (hear handshake s u 0 0 blank)) words ws bytes bs
+-- of either handshake, judged with as many slots as the rooms have
+module _ (g : Greeted) (o : ℕ → Result L.Answer) (whole words bytes : List ℕ) (slots : ℕ) (k : slots ≡ slotsIn words bytes) (s u : List ℕ)
+    (e : (g .answer ≡ answerAs (o slots)) × (reported (o slots) (keptBy g s u) ≡ reported (o slots) whole)) where
+  abbrev Read : (slots : ℕ) (ws bs : List ℕ) → Type 0
+  Read n ws bs = (g .answer ≡ answerAs (o n)) × Lent (o n) whole words ws bytes bs
 
-    module _ (e : (g .answer ≡ answerAs (parseHandshake s u slots))
-        × (reported (parseHandshake s u slots) (clientEntries g s ++ daemonEntries g u) ≡ reported (parseHandshake s u slots) (heardEntries (hear handshake s u 0 0 blank)))) where
-      pub handshake-refused : (x : Refusal) → g .answer .outcome ≡ Refused x → Read (slotsIn words bytes) words bytes
-      handshake-refused x f = subst (λ (n : ℕ). Read n words bytes) k (unchanged (g .answer) (parseHandshake s u slots) (e .0) x f _ words bytes)
+  pub read-refused : (x : Refusal) → g .answer .outcome ≡ Refused x → Read (slotsIn words bytes) words bytes
+  read-refused x f = subst (λ (n : ℕ). Read n words bytes) k (unchanged (g .answer) (o slots) (e .0) x f _ words bytes)
 
-      pub handshake-filled : g .answer .outcome ≡ Fine
-          → (ws : List ℕ) (n : ℕ) (bs : List ℕ) (m : ℕ) → Put words 0 (clientEntries g s) ws n → Put bytes 0 (bytesOf (clientEntries g s)) bs m
-          → (ws' : List ℕ) (n' : ℕ) (bs' : List ℕ) (m' : ℕ) → Put ws n (daemonEntries g u) ws' n' → Put bs m (bytesOf (daemonEntries g u)) bs' m'
-          → Read (slotsIn words bytes) ws' bs'
-      handshake-filled f ws n bs m p q ws' n' bs' m' p' q' =
-          subst (λ (n : ℕ). Read n ws' bs') k
-          (filled (g .answer) (parseHandshake s u slots) (e .0) f (clientEntries g s ++ daemonEntries g u) _ (e .1) words ws' n' bytes bs' m'
-          (put-join words 0 (clientEntries g s) ws n (daemonEntries g u) ws' n' p p')
-          (rw (bytes-join (clientEntries g s) (daemonEntries g u)) (put-join bytes 0 (bytesOf (clientEntries g s)) bs m (bytesOf (daemonEntries g u)) bs' m' q q')))
+  abbrev Filled : (s : List ℕ) (l at : ℕ) (ws : List ℕ) (n : ℕ) (bs : List ℕ) (m : ℕ) (ws' : List ℕ) (n' : ℕ) (bs' : List ℕ) (m' : ℕ) → Type 0
+  Filled s l at ws n bs m ws' n' bs' m' = Put ws n (entriesOf (piecesOf l s at)) ws' n' × Put bs m (bytesOf (entriesOf (piecesOf l s at))) bs' m'
 
-  module _ (c : Version) (u : List ℕ) where
-    abbrev DaemonRead : (slots : ℕ) (ws bs : List ℕ) → Type 0
-    DaemonRead n ws bs =
-        (g .answer ≡ answerAs (parseDaemonHandshake c u n)) × Lent (parseDaemonHandshake c u n) (heardEntries (hear (daemonHandshake c) [] u 0 0 blank)) words ws bytes bs
+  pub read-filled : g .answer .outcome ≡ Fine
+      → (ws : List ℕ) (n : ℕ) (bs : List ℕ) (m : ℕ) → Filled s (g .offers) (g .«offers_at») words 0 bytes 0 ws n bs m
+      → (ws' : List ℕ) (n' : ℕ) (bs' : List ℕ) (m' : ℕ) → Filled u (g .features) (g .«features_at») ws n bs m ws' n' bs' m'
+      → (ws'' : List ℕ) (n'' : ℕ) (bs'' : List ℕ) (m'' : ℕ) → Filled u (g .info) (g .«info_at») ws' n' bs' m' ws'' n'' bs'' m''
+      → Read (slotsIn words bytes) ws'' bs''
+  read-filled f ws n bs m p ws' n' bs' m' p' ws'' n'' bs'' m'' p'' =
+      subst (λ (n : ℕ). Read n ws'' bs'') k
+      (filled (g .answer) (o slots) (e .0) f (keptBy g s u) whole (e .1) words ws'' n'' bytes bs'' m''
+      (three-turns (λ x. x) (λ xs ys. refl) words ws n ws' n' ws'' n'' _ _ _ (p .0) (p' .0) (p'' .0))
+      (three-turns bytesOf bytes-join bytes bs m bs' m' bs'' m'' _ _ _ (p .1) (p' .1) (p'' .1)))
 
-    module _ (e : (g .answer ≡ answerAs (parseDaemonHandshake c u slots))
-        × (reported (parseDaemonHandshake c u slots) (daemonEntries g u) ≡ reported (parseDaemonHandshake c u slots) (heardEntries (hear (daemonHandshake c) [] u 0 0 blank)))) where
-      pub daemon-refused : (x : Refusal) → g .answer .outcome ≡ Refused x → DaemonRead (slotsIn words bytes) words bytes
-      daemon-refused x f = subst (λ (n : ℕ). DaemonRead n words bytes) k (unchanged (g .answer) (parseDaemonHandshake c u slots) (e .0) x f _ words bytes)
+-- one of the two handshakes was judged
+module _ (b : Bool) (c : Version) (s u : List ℕ) (slots : ℕ) (g : Greeted) where
+  abbrev Judged : Result L.Answer → List ℕ → Type 0
+  Judged o whole = (g .answer ≡ answerAs o) × (reported o (keptBy g s u) ≡ reported o whole)
 
-      pub daemon-filled : g .answer .outcome ≡ Fine
-          → (ws : List ℕ) (n : ℕ) (bs : List ℕ) (m : ℕ) → Put words 0 (daemonEntries g u) ws n → Put bytes 0 (bytesOf (daemonEntries g u)) bs m
-          → DaemonRead (slotsIn words bytes) ws bs
-      daemon-filled f ws n bs m p q =
-          subst (λ (n : ℕ). DaemonRead n ws bs) k
-          (filled (g .answer) (parseDaemonHandshake c u slots) (e .0) f (daemonEntries g u) _ (e .1) words ws n bytes bs m p q)
+  pub greeted-alone : b ≡ true → g .answer ≡ answerAs (parseDaemonHandshake c u slots)
+      → ((s : List ℕ) → reported (parseDaemonHandshake c u slots) (keptBy g s u) ≡ reported (parseDaemonHandshake c u slots) (heardEntries (hear (daemonHandshake c) [] u 0 0 blank)))
+      → Judged (parsed b c s u slots) (entriesBy b c s u)
+  greeted-alone e p q = subst (λ (x : Bool). Judged (parsed x c s u slots) (entriesBy x c s u)) (sym e) (p, q s)
+
+  pub greeted-both : b ≡ false → Judged (parseHandshake s u slots) (heardEntries (hear handshake s u 0 0 blank)) → Judged (parsed b c s u slots) (entriesBy b c s u)
+  greeted-both e p = subst (λ (x : Bool). Judged (parsed x c s u slots) (entriesBy x c s u)) (sym e) p
 
 -- ---- with one of the two rooms: what was judged fine fits
 room-of : (slots : ℕ) (whole : List ℕ) (x : L.Answer) → Counted slots whole x → length whole ≤ 2 * slots

@@ -5,16 +5,18 @@ use mathlib.Core.List.{List, [], _++_, append-assoc, append-nil}
 use mathlib.Core.Bool.{Bool, true, false}
 use Rattle.layouts.specs.declared.Record.{Record}
 use Rattle.layouts.specs.Primitive.{pick, Result, ok, refused, onward}
-use Rattle.layouts.specs.Refusal.{refusal}
-use Rattle.layouts.specs.Shape.{Tree}
+use Rattle.layouts.specs.declared.Refusal.{Refusal}
+use Rattle.layouts.specs.Refusal.{refusal, refusedBy}
+use Rattle.layouts.specs.Shape.{Tree, stop}
 use Rattle.layouts.specs.Pieces.{Pieces, run, skipOf}
 use Rattle.layouts.specs.Record.{blank, recordOf}
 use Rattle.layouts.specs.Judge.{Ended, judgeOf, entriesOf}
 use Rattle.layouts.specs.Handshake.{Talk, turn, lost, over, Heard, heard, ifEnds, hear, Both, onStream, judgeHeard, heardEntries}
 use Rattle.layouts.proofs.Judge.{Read, judge-read}
 use Rattle.layouts.proofs.Placed.{never-both}
-use Rattle.handshake.specs.declared.Sofar.{Sofar}
-use Rattle.handshake.specs.Sofar.{start, bothOf, said, placeOn, movedOn, afterTurn, turnOf, required}
+use Rattle.walk_judge.specs.declared.Outcome.the-variants.{Fine, Refused}
+use Rattle.walk_judge.specs.declared.Answer.{Answer}
+use Rattle.handshake.specs.Sofar.{saidOn, start, bothOf, said, placeOn, movedOn, afterTurn, turnOf, required}
 use Rattle.handshake.proofs.Ways.{ok-same, said-ok, said-known}
 use Rattle.handshake.proofs.Quiet.{Quiet}
 
@@ -28,13 +30,30 @@ onward-join : {A B C : Type 0} (o : Result A) (f : A → Result C) (g : A → Re
 onward-join (ok x) f g k e = e x
 onward-join (refused which place stream) f g k e = refl
 
-onward-all : {A : Type 0} (o : Result A) → onward o (λ x. ok x) ≡ o
+pub onward-all : {A : Type 0} (o : Result A) → onward o (λ x. ok x) ≡ o
 onward-all (ok x) = refl
 onward-all (refused which place stream) = refl
 
 never-ok : {A B : Type 0} (o : Result A) (which place stream : ℕ) {y : B} → onward o (λ x. refused which place stream) ≡ ok y → ⊥
 never-ok (ok x) which place stream e = never-both e
 never-ok (refused which' place' stream') which place stream e = never-both e
+
+-- after a condition
+pub required-known : {A : Type 0} (h : Answer) (b : Bool) (r : Refusal) (f g : Both → Result A) → f (bothOf h) ≡ g (bothOf h)
+    → onward (onward (said h) (required b r)) f ≡ onward (onward (said h) (required b r)) g
+unfolding required
+required-known h true r f g e = ap (λ (o : Result Both). onward o f) (onward-all (said h)) ∙ said-known h f g e ∙ ap (λ (o : Result Both). onward o g) (sym (onward-all (said h)))
+required-known h false r f g e = by (said h)
+  where
+    by : (o : Result Both) → onward (onward o (λ x. refusedBy r)) f ≡ onward (onward o (λ x. refusedBy r)) g
+    by (ok x) = refl
+    by (refused which place stream) = refl
+
+-- a turn of no fields
+pub idle-turn : (o : Result Both) (s : List ℕ) (slots : ℕ) (t : Tree) → t ≡ stop → onward o (turnOf false s slots t) ≡ o
+unfolding turnOf afterTurn judgeOf run
+idle-turn (ok x) s slots t e = ap (λ (z : Tree). turnOf false s slots z x) e
+idle-turn (refused which place stream) s slots t e = refl
 
 -- ---- one turn
 module _ (s u : List ℕ) (slots : ℕ) where
@@ -113,6 +132,24 @@ module _ (s u : List ℕ) (slots : ℕ) where
           ∙ ap (λ (h : Heard). entriesOf these ++ heardEntries h)
           (next-heard (read .0) (read .2) ∙ ap (λ (z : Both). heardFrom (k (z .found) (placeOn d z)) z) (read .1))
 
+-- what was said, as an answer
+abbrev answered : Result Both → Answer
+answered (ok x) = record { outcome = Fine; kind = 0; ends = x .clientEnds; ends2 = x .daemonEnds; found = x .found }
+answered (refused which place stream) = record { outcome = Refused (refusal which place stream); kind = 0; ends = 0; ends2 = 0; found = blank }
+
+said-answered : (o : Result Both) → said (answered o) ≡ o
+unfolding saidOn
+said-answered (ok x) = refl
+said-answered (refused which place stream) = refl
+
+client-stays : (s : List ℕ) (slots : ℕ) (t : Tree) (x y : Both) → turnOf false s slots t x ≡ ok y → y .daemonEnds ≡ x .daemonEnds
+unfolding turnOf afterTurn
+client-stays s slots t x y q = by (judgeOf s slots 0 (x .found) (run t s (x .clientEnds))) q
+  where
+    by : (o : Result Ended) → onward (onStream false o) (λ e. ok (movedOn false x e)) ≡ ok y → y .daemonEnds ≡ x .daemonEnds
+    by (ok e) z = ap (λ (b : Both). b .daemonEnds) (sym (ok-same z))
+    by (refused which place stream) z = absurd (never-both z)
+
 -- ---- what is left of a whole talk: es were reported, and this talk is still to come
 module _ (s u : List ℕ) (slots : ℕ) (whole : Heard) where
   pub record Left (o : Result Both) (es : List ℕ) (talk : Talk) : Type 0 where
@@ -137,7 +174,7 @@ module _ (s u : List ℕ) (slots : ℕ) (whole : Heard) where
         reports = λ x q. absurd (never-ok o which place stream q);
       }
 
-  module _ (h h' : Sofar) (es : List ℕ) (d : Bool) (t t' : Tree) (k : Record → ℕ → Talk) (e : t ≡ t')
+  module _ (h h' : Answer) (es : List ℕ) (d : Bool) (t t' : Tree) (k : Record → ℕ → Talk) (e : t ≡ t')
       (q : said h' ≡ onward (said h) (turnOf d (pick d u s) slots t')) (l : Left (said h) es (turn d t k)) where
     turned : said h' ≡ onward (said h) (turnOf d (pick d u s) slots t)
     turned = q ∙ ap (λ (z : Tree). onward (said h) (turnOf d (pick d u s) slots z)) (sym e)
@@ -166,6 +203,44 @@ module _ (s u : List ℕ) (slots : ℕ) (whole : Heard) where
         let z : es ++ entriesOf (run t' (pick d u s) (placeOn d (bothOf h))) ≡ es =
         sym (reported (bothOf h) refl) ∙ ap (λ (n : List ℕ). es ++ n) (f (pick d u s) (placeOn d (bothOf h))) ∙ append-nil es in
         rw (sym z) left-turn
+
+  -- where all was fine other entries may be the same
+  pub left-es : (o : Result Both) (es es' : List ℕ) (talk : Talk) → ((x : Both) → o ≡ ok x → es ≡ es') → Left o es talk → Left o es' talk
+  left-es o es es' talk f l =
+      record {
+        same = l .same;
+        reports = λ x q. l .reports x q ∙ ap (λ (z : List ℕ). z ++ heardEntries (heardFrom s u slots talk x)) (f x q);
+      }
+
+  -- a turn of the client's and one of the daemon's
+  module _ (h h' : Answer) (es : List ℕ) (t t' v v' : Tree) (k : Record → ℕ → Talk) (e : t ≡ t') (f : v ≡ v')
+      (q : said h' ≡ onward (onward (said h) (turnOf false s slots t')) (turnOf true u slots v')) (l : Left (said h) es (turn false t (λ r n. turn true v k))) where
+    abbrev asked : Answer
+    asked = answered (onward (said h) (turnOf false s slots t'))
+
+    told : said asked ≡ onward (said h) (turnOf false s slots t')
+    told = said-answered (onward (said h) (turnOf false s slots t'))
+
+    then : said h' ≡ onward (said asked) (turnOf true u slots v')
+    then = q ∙ ap (λ (o : Result Both). onward o (turnOf true u slots v')) (sym told)
+
+    -- the client's turn leaves the daemon's stream where it was
+    same-place : (y : Both) → said h' ≡ ok y → asked .ends2 ≡ h .ends2
+    same-place y p =
+        let a = onward-ok (said asked) (turnOf true u slots v') y (sym then ∙ p) in
+        let b = onward-ok (said h) (turnOf false s slots t') (a .0) (sym told ∙ a .1) in
+        ap (λ (x : Both). x .daemonEnds) (sym (said-ok asked (a .0) (a .1)))
+        ∙ client-stays s slots t' (b .0) (a .0) (b .2)
+        ∙ ap (λ (x : Both). x .daemonEnds) (said-ok h (b .0) (b .1))
+
+    abbrev both : List ℕ
+    both = entriesOf (run t' s (h .ends)) ++ entriesOf (run v' u (h .ends2))
+
+    pub left-round : Left (said h') (es ++ both) (k (h' .found) (h' .ends2))
+    left-round =
+        left-es (said h') _ (es ++ both) _
+        (λ y p. append-assoc es _ _ ∙ ap (λ (n : ℕ). es ++ (entriesOf (run t' s (h .ends)) ++ entriesOf (run v' u n))) (same-place y p))
+        (left-turn asked h' _ true v v' k f then (left-turn h asked es false t t' (λ r n. turn true v k) e told l))
 
   -- nothing is left
   pub left-answer : (o : Result Both) (es : List ℕ) → Left o es over → judgeHeard s u slots blank whole ≡ o

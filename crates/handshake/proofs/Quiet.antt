@@ -22,7 +22,7 @@ ask-quiet : (i : Slot) (k : ℕ → Tree) → ((n : ℕ) → Quiet (k n)) → Qu
 unfolding run
 ask-quiet i k h s at = number-quiet (numOf (length s) (numberAt s at) at) i at (λ n. run (k n) s _) (λ n. h n s _)
 
-stop-quiet : Quiet stop
+pub stop-quiet : Quiet stop
 unfolding run entriesOf
 stop-quiet s at = refl
 

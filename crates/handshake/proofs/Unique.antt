@@ -4,7 +4,7 @@ use contract.Lifetimes.{Lfts}
 use borrow.Fn.Kinds.{Dens, endedOf}
 use denote.Triple.Clauses.{AtExit}
 use denote.Ref.{now}
-use Rattle.judge.specs.declared.Answer.{Answer}
+use Rattle.walk_judge.specs.declared.Answer.{Answer}
 use Rattle.handshake.proofs.parse_handshake.Reads as parse-handshake
 use Rattle.handshake.proofs.parse_handshake.Kinds as parse-handshake-kinds
 use Rattle.handshake.proofs.parse_daemon_handshake.Reads as parse-daemon-handshake

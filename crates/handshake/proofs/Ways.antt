@@ -1,166 +1,198 @@
 -- Each way through the code that moves on from what was heard so far.
-use Prim.Native.Nat.{ℕ}
+use Prim.Native.Nat.{ℕ, _+_, _*_, _/_, _%_, _≤_, _<_}
 use mathlib.Core.Path.{_≡_, refl, sym, _∙_, ap}
 use mathlib.Core.List.{List, [], _∷_}
-use mathlib.Core.Bool.{Bool, true, false}
-use lib.Dec.{eqb}
+use mathlib.Core.Bool.{Bool, true, false, not}
+use native.Mathlib.Omega.{arith}
+use native.Mathlib.Decide.{decLe}
+use lib.Dec.{eqb, leb, ltb}
+use borrow.Author.Tests.{eqb-true, eqb-false, le-leb, lt-leb, lt-ltb, le-ltb}
 use Rattle.layouts.specs.declared.Record.{Record}
 use Rattle.layouts.specs.declared.Refusal.{Refusal}
 use Rattle.layouts.specs.Primitive.{pick, Version, version, fromWire, atLeast, smaller, Result, ok, refused, onward}
 use Rattle.layouts.specs.Refusal.{refusal, refusedBy}
-use Rattle.layouts.specs.Shape.{layout}
-use Rattle.layouts.specs.Record.{blank}
 use Rattle.layouts.specs.Judge.{Ended, judgeOf}
-use Rattle.layouts.specs.Handshake.{Both, onStream, streamOf, numberIn, versions, handshakeAnswer}
+use Rattle.layouts.specs.Handshake.{Both, onStream, numberIn, versions, handshakeAnswer}
 use Rattle.layouts.proofs.Placed.{never-both}
-use Rattle.table.specs.Table.{groupsAt}
-use Rattle.items.specs.Items.{versionOf, firstOf, layoutPieces, piecesOf}
-use Rattle.items.proofs.Trees.{pieces-of}
-use Rattle.judge.specs.declared.Outcome.{Outcome}
-use Rattle.judge.specs.declared.Outcome.the-variants.{Fine, Refused}
-use Rattle.judge.specs.declared.Answer.{Answer}
-use Rattle.judge.specs.Judged.{answerAs, endedAs}
-use Rattle.handshake.specs.declared.Sofar.{Sofar}
-use Rattle.handshake.specs.Sofar.{unlessRefused, bothOf, said, judgedOf, placeOn, movedOn, afterTurn, turnOf, required}
+use Rattle.table.specs.Table.{versionIn}
+use Rattle.walk_items.specs.Items.{layoutTree, piecesOf}
+use Rattle.walk_judge.specs.declared.Outcome.{Outcome}
+use Rattle.walk_judge.specs.declared.Outcome.the-variants.{Fine, Refused}
+use Rattle.walk_judge.specs.declared.Answer.{Answer}
+use Rattle.walk_judge.specs.Judged.{answerAs, endedAs}
+use Rattle.handshake.specs.Sofar.{unlessRefused, bothOn, saidOn, bothOf, said, movedOn, afterTurn, turnOf, required}
 
 pub ok-same : {A : Type 0} {x y : A} → ok x ≡ ok y → x ≡ y
 ok-same e = cc
 
-module _ (h : Sofar) where
-  pub said-fine : h .outcome ≡ Fine → said h ≡ ok (bothOf h)
-  unfolding said
-  said-fine e = ap (λ (o : Outcome). unlessRefused o (bothOf h)) e
+module _ (d : Bool) (h : Answer) where
+  pub said-fine : h .outcome ≡ Fine → saidOn d h ≡ ok (bothOn d h)
+  unfolding saidOn
+  said-fine e = ap (λ (o : Outcome). unlessRefused o (bothOn d h)) e
 
-  pub said-refused : (x : Refusal) → h .outcome ≡ Refused x → said h ≡ refusedBy x
-  unfolding said
-  said-refused x e = ap (λ (o : Outcome). unlessRefused o (bothOf h)) e
+  pub said-refused : (x : Refusal) → h .outcome ≡ Refused x → saidOn d h ≡ refusedBy x
+  unfolding saidOn
+  said-refused x e = ap (λ (o : Outcome). unlessRefused o (bothOn d h)) e
 
   -- a refusal stays
-  pub stays : {A : Type 0} (k : Both → Result A) (x : Refusal) → h .outcome ≡ Refused x → refusedBy x ≡ onward (said h) k
+  pub stays : {A : Type 0} (k : Both → Result A) (x : Refusal) → h .outcome ≡ Refused x → refusedBy x ≡ onward (saidOn d h) k
   stays k x e = ap (λ (o : Result Both). onward o k) (sym (said-refused x e))
 
-  pub remains : (k : Both → Result Both) (x : Refusal) → h .outcome ≡ Refused x → said h ≡ onward (said h) k
-  remains k x e = said-refused x e ∙ stays k x e
-
-  pub goes : {A : Type 0} (k : Both → Result A) → h .outcome ≡ Fine → k (bothOf h) ≡ onward (said h) k
+  pub goes : {A : Type 0} (k : Both → Result A) → h .outcome ≡ Fine → k (bothOn d h) ≡ onward (saidOn d h) k
   goes k e = ap (λ (o : Result Both). onward o k) (sym (said-fine e))
 
+pub remains : (d d' : Bool) (h : Answer) (k : Both → Result Both) (x : Refusal) → h .outcome ≡ Refused x → saidOn d' h ≡ onward (saidOn d h) k
+remains d d' h k x e = said-refused d' h x e ∙ stays d h k x e
+
+module _ (h : Answer) where
   -- what was said stands in the fields
   pub said-ok : (x : Both) → said h ≡ ok x → x ≡ bothOf h
   said-ok x q = by (h .outcome) refl
     where
       by : (o : Outcome) → h .outcome ≡ o → x ≡ bothOf h
-      by Fine e = ok-same (sym q ∙ said-fine e)
-      by (Refused r) e = absurd (never-both (sym (said-refused r e) ∙ q))
+      by Fine e = ok-same (sym q ∙ said-fine false h e)
+      by (Refused r) e = absurd (never-both (sym (said-refused false h r e) ∙ q))
 
   pub said-known : {A : Type 0} (f g : Both → Result A) → f (bothOf h) ≡ g (bothOf h) → onward (said h) f ≡ onward (said h) g
   said-known f g q = by (h .outcome) refl
     where
       by : (o : Outcome) → h .outcome ≡ o → onward (said h) f ≡ onward (said h) g
-      by Fine e = sym (goes f e) ∙ q ∙ goes g e
-      by (Refused r) e = sym (stays f r e) ∙ stays g r e
+      by Fine e = sym (goes false h f e) ∙ q ∙ goes false h g e
+      by (Refused r) e = sym (stays false h f r e) ∙ stays false h g r e
 
-pub judged-back : (a : Answer) (o : Result Ended) → a ≡ answerAs (endedAs o) → judgedOf a ≡ o
+-- a refusal, as an answer
+pub said-back : (d : Bool) (z : Answer) (y : Refusal) → z ≡ answerAs (refusedBy y) → saidOn d z ≡ refusedBy y
+said-back d z y e = said-refused d z y (ap (λ (a : Answer). a .outcome) e)
+
+-- ---- a turn
+unfoldable judgedOf : Answer → Result Ended
+judgedOf a = unlessRefused (a .outcome) (record { found = a .found; ends = a .ends })
+
+judged-back : (a : Answer) (o : Result Ended) → a ≡ answerAs (endedAs o) → judgedOf a ≡ o
 unfolding judgedOf
 judged-back a (ok x) e = ap (λ (j : Answer). unlessRefused (j .outcome) (record { found = j .found; ends = j .ends })) e
 judged-back a (refused which place stream) e = ap (λ (j : Answer). unlessRefused (j .outcome) (record { found = j .found; ends = j .ends })) e
 
--- ---- a turn that was judged
-pub stream-bit : (d : Bool) (which place n : ℕ) → n ≡ pick d 1 0 → refusal which place n ≡ refusal which place (streamOf d)
-stream-bit false which place n e = ap (refusal which place) e
-stream-bit true which place n e = ap (refusal which place) e
-
-module _ (d : Bool) (x : Both) (a : Answer) where
-  pub after-refused : (r y : Refusal) (o : Result Both) → a .outcome ≡ Refused r → o ≡ refusedBy y → y ≡ refusal (r .which) (r .place) (streamOf d)
-      → o ≡ afterTurn d x (judgedOf a)
-  unfolding afterTurn judgedOf
-  after-refused r y o e q f =
-      q ∙ ap refusedBy f
-      ∙ ap (λ (p : Outcome). onward (onStream d (unlessRefused p (record { found = a .found; ends = a .ends }))) (λ e. ok (movedOn d x e))) (sym e)
-
-  pub after-fine : (n m : ℕ) → n ≡ pick d (x .clientEnds) (a .ends) → m ≡ pick d (a .ends) (x .daemonEnds) → a .outcome ≡ Fine
-      → ok (record { found = a .found; clientEnds = n; daemonEnds = m }) ≡ afterTurn d x (judgedOf a)
-  unfolding afterTurn judgedOf
-  after-fine n m f g e =
-      ap (λ (i : ℕ). ok (record { found = a .found; clientEnds = i; daemonEnds = m })) f
-      ∙ ap (λ (i : ℕ). ok (record { found = a .found; clientEnds = pick d (x .clientEnds) (a .ends); daemonEnds = i })) g
-      ∙ ap (λ (p : Outcome). onward (onStream d (unlessRefused p (record { found = a .found; ends = a .ends }))) (λ e. ok (movedOn d x e))) (sym e)
-
-module _ (d : Bool) (s : List ℕ) (slots : ℕ) (v : Version) (i : ℕ) (h : Sofar) where
-  pub turn-fine : h .outcome ≡ Fine → (at : ℕ) → at ≡ placeOn d (bothOf h) → (l : ℕ) → (versionOf l ≡ v) × (firstOf l ≡ i)
-      → (a : Answer) → a ≡ answerAs (endedAs (judgeOf s slots 0 (h .found) (piecesOf l s at)))
-      → (r : Sofar) → said r ≡ afterTurn d (bothOf h) (judgedOf a) → said r ≡ onward (said h) (turnOf d s slots (layout v (groupsAt i)))
+module _ (d : Bool) (s : List ℕ) (slots l : ℕ) (h a : Answer) (f : h .outcome ≡ Fine) (q : a ≡ answerAs (endedAs (judgeOf s slots 0 (h .found) (piecesOf l s (h .ends))))) where
+  -- what the turn makes of it, by how it was judged
+  by-judged : afterTurn d (bothOn d h) (judgedOf a) ≡ onward (saidOn d h) (turnOf d s slots (layoutTree l))
   unfolding turnOf
-  turn-fine e at p l m a q r z =
-      z ∙ ap (afterTurn d (bothOf h)) (judged-back a _ q ∙ ap (judgeOf s slots 0 (h .found)) (pieces-of l v i m s at ∙ ap (layoutPieces v i s) p))
-      ∙ goes h (turnOf d s slots (layout v (groupsAt i))) e
+  by-judged = ap (afterTurn d (bothOn d h)) (judged-back a _ q) ∙ by d ∙ goes d h (turnOf d s slots (layoutTree l)) f
+    where
+      by : (d : Bool) → afterTurn d (bothOn d h) (judgeOf s slots 0 (h .found) (piecesOf l s (h .ends))) ≡ turnOf d s slots (layoutTree l) (bothOn d h)
+      by false = refl
+      by true = refl
 
--- ---- a condition
-module _ (h : Sofar) (x : Refusal) where
-  pub holds-fine : (b : Bool) → h .outcome ≡ Fine → b ≡ true → said h ≡ onward (said h) (required b x)
+  pub turn-refused : (r : Refusal) → a .outcome ≡ Refused r → (b : ℕ) → b ≡ pick d 1 0 → (z : Answer) → z ≡ answerAs (refusedBy (refusal (r .which) (r .place) b))
+      → saidOn (not d) z ≡ onward (saidOn d h) (turnOf d s slots (layoutTree l))
+  unfolding afterTurn judgedOf
+  turn-refused r e b p z g =
+      said-back (not d) z _ g ∙ by d p
+      ∙ ap (λ (o : Outcome). afterTurn d (bothOn d h) (unlessRefused o (record { found = a .found; ends = a .ends }))) (sym e) ∙ by-judged
+    where
+      by : (d : Bool) → b ≡ pick d 1 0 → refusedBy (refusal (r .which) (r .place) b) ≡ afterTurn d (bothOn d h) (unlessRefused (Refused r) (record { found = a .found; ends = a .ends }))
+      by false e = ap (refused (r .which) (r .place)) e
+      by true e = ap (refused (r .which) (r .place)) e
+
+  pub turn-fine : a .outcome ≡ Fine
+      → saidOn (not d) (record { outcome = a .outcome; kind = a .kind; ends = h .ends2; ends2 = a .ends; found = a .found }) ≡ onward (saidOn d h) (turnOf d s slots (layoutTree l))
+  unfolding afterTurn judgedOf saidOn
+  turn-fine e =
+      ap (λ (o : Outcome). unlessRefused o (bothOn (not d) (record { outcome = a .outcome; kind = a .kind; ends = h .ends2; ends2 = a .ends; found = a .found }))) e
+      ∙ by d
+      ∙ ap (λ (o : Outcome). afterTurn d (bothOn d h) (unlessRefused o (record { found = a .found; ends = a .ends }))) (sym e) ∙ by-judged
+    where
+      by : (d : Bool) → ok (bothOn (not d) (record { outcome = a .outcome; kind = a .kind; ends = h .ends2; ends2 = a .ends; found = a .found }))
+          ≡ afterTurn d (bothOn d h) (ok (record { found = a .found; ends = a .ends }))
+      by false = refl
+      by true = refl
+
+pub one-round : (o p q : Result Both) (f g : Both → Result Both) → p ≡ onward o f → q ≡ onward p g → q ≡ onward (onward o f) g
+one-round o p q f g e h = h ∙ ap (λ (x : Result Both). onward x g) e
+
+-- ---- a condition on a number that was looked up
+module _ (h : Answer) (x : Refusal) (n wanted i : ℕ) (f : h .outcome ≡ Fine) (e : n ≡ numberIn (h .found) i) where
+  by-number : (b : Bool) → eqb n wanted ≡ b → required b x (bothOf h) ≡ onward (said h) (required (eqb (numberIn (h .found) i) wanted) x)
+  by-number b g = ap (λ (c : Bool). required c x (bothOf h)) (sym g ∙ ap (λ (m : ℕ). eqb m wanted) e) ∙ goes false h (required (eqb (numberIn (h .found) i) wanted) x) f
+
+  pub number-holds : eqb n wanted ≡ true → said h ≡ onward (said h) (required (eqb (numberIn (h .found) i) wanted) x)
   unfolding required
-  holds-fine b e f = said-fine h e ∙ ap (λ (c : Bool). required c x (bothOf h)) (sym f) ∙ goes h (required b x) e
+  number-holds g = said-fine false h f ∙ by-number true g
 
-  pub fails-fine : (b : Bool) (o : Result Both) → h .outcome ≡ Fine → b ≡ false → o ≡ refusedBy x → o ≡ onward (said h) (required b x)
+  pub number-fails : eqb n wanted ≡ false → (z : Answer) → z ≡ answerAs (refusedBy x) → said z ≡ onward (said h) (required (eqb (numberIn (h .found) i) wanted) x)
   unfolding required
-  fails-fine b o e f q = q ∙ ap (λ (c : Bool). required c x (bothOf h)) (sym f) ∙ goes h (required b x) e
+  number-fails g z q = said-back false z x q ∙ by-number false g
 
--- on a number that was looked up
-pub on-number : (o q : Result Both) (b : Bool) (y : Refusal) (which place place' stream n n' x : ℕ) → q ≡ onward o (required b y) → b ≡ eqb n x → n ≡ n'
-    → y ≡ refusal which place stream → place ≡ place' → q ≡ onward o (required (eqb n' x) (refusal which place' stream))
-on-number o q b y which place place' stream n n' x e f g k h =
-    e ∙ ap (λ (c : Bool). onward o (required c y)) (f ∙ ap (λ (m : ℕ). eqb m x) g)
-    ∙ ap (λ (r : Refusal). onward o (required (eqb n' x) r)) (k ∙ ap (λ (m : ℕ). refusal which m stream) h)
+-- ---- versions as numbers compare as versions do: by major, then minor
+module _ (v w : ℕ) where
+  minor-by : v / 256 ≡ w / 256 → Dec (w ≤ v) → leb w v ≡ leb (w % 256) (v % 256)
+  minor-by e (yes g) = le-leb w v g ∙ sym (le-leb (w % 256) (v % 256) (omega arith))
+  minor-by e (no g) = lt-leb w v (omega arith) ∙ sym (lt-leb (w % 256) (v % 256) (omega arith))
 
--- one condition after the other
-pub on-numbers : (o p q : Result Both) (b b' : Bool) (y y' : Refusal) (which place stream which' place' stream' m n x m' n' x' : ℕ)
-    → p ≡ onward o (required b y) → b ≡ eqb m x → m ≡ n → y ≡ refusal which place stream
-    → q ≡ onward p (required b' y') → b' ≡ eqb m' x' → m' ≡ n' → y' ≡ refusal which' place' stream'
-    → q ≡ onward (onward o (required (eqb n x) (refusal which place stream))) (required (eqb n' x') (refusal which' place' stream'))
-on-numbers o p q b b' y y' which place stream which' place' stream' m n x m' n' x' e f g k e' f' g' k' =
-    on-number p q b' y' which' place' place' stream' m' n' x' e' f' g' k' refl
-    ∙ ap (λ (r : Result Both). onward r (required (eqb n' x') (refusal which' place' stream'))) (on-number o p b y which place place stream m n x e f g k refl)
+  major-by : (v / 256 ≡ w / 256 → ⊥) → Dec (w ≤ v) → leb w v ≡ ltb (w / 256) (v / 256)
+  major-by n (yes g) = le-leb w v g ∙ sym (lt-ltb (w / 256) (v / 256) (omega arith))
+  major-by n (no g) = lt-leb w v (omega arith) ∙ sym (le-ltb (w / 256) (v / 256) (omega arith))
 
--- ---- versions
-pub second-smaller : (v w : Version) (b : Bool) → b ≡ atLeast v w → b ≡ true → w ≡ smaller v w
-second-smaller v w b e f = ap (λ (c : Bool). pick c w v) (sym f ∙ e)
+  by-major : (b : Bool) → eqb (v / 256) (w / 256) ≡ b → leb w v ≡ atLeast (versionIn v) (versionIn w)
+  unfolding atLeast
+  by-major true e = rw e (minor-by (eqb-true (v / 256) (w / 256) e) (decLe w v))
+  by-major false e = rw e (major-by (eqb-false (v / 256) (w / 256) e) (decLe w v))
 
-pub first-smaller : (v w : Version) (b : Bool) → b ≡ atLeast v w → b ≡ false → v ≡ smaller v w
-first-smaller v w b e f = ap (λ (c : Bool). pick c w v) (sym f ∙ e)
+  pub in-order : leb w v ≡ atLeast (versionIn v) (versionIn w)
+  in-order = by-major (eqb (v / 256) (w / 256)) refl
 
--- whether a version is one at least, as a number
-pub bit-of : (v w w' : Version) (b : Bool) (n : ℕ) → w ≡ w' → b ≡ atLeast v w → n ≡ pick b 1 0 → n ≡ pick (atLeast v w') 1 0
-bit-of v w w' b n e f g = g ∙ ap (λ (c : Bool). pick {A = ℕ} c 1 0) (f ∙ ap (atLeast v) e)
+pub smaller-in : (c d v : ℕ) → v ≡ pick (leb d c) d c → versionIn v ≡ smaller (versionIn c) (versionIn d)
+smaller-in c d v e = ap versionIn e ∙ by (leb d c) ∙ ap (λ (b : Bool). pick b (versionIn d) (versionIn c)) (in-order c d)
+  where
+    by : (b : Bool) → versionIn (pick b d c) ≡ pick b (versionIn d) (versionIn c)
+    by true = refl
+    by false = refl
 
-pub all-versions : (c d v : Version) (m n trust : ℕ) → v ≡ smaller c d → m ≡ pick (atLeast v (version 1 33)) 1 0 → n ≡ pick (atLeast v (version 1 35)) 1 0
-    → (c .major ∷ c .minor ∷ d .major ∷ d .minor ∷ v .major ∷ v .minor ∷ m ∷ n ∷ trust ∷ 0 ∷ 0 ∷ 0 ∷ []) ≡ versions c d trust
+-- the lowest two bytes of a number on the wire
+pub wire-in : (n v : ℕ) → v ≡ n % 65536 → versionIn v ≡ fromWire n
+wire-in n v e =
+    let a : v / 256 ≡ n / 256 % 256 = omega arith in
+    let b : v % 256 ≡ n % 256 = omega arith in
+    ap (λ (x : ℕ). version x (v % 256)) a ∙ ap (version (n / 256 % 256)) b
+
+-- a version that was given
+pub given-in : (major minor : ℕ) → minor < 256 → versionIn (256 * major + minor) ≡ version major minor
+given-in major minor h =
+    let a : (256 * major + minor) / 256 ≡ major = omega arith in
+    let b : (256 * major + minor) % 256 ≡ minor = omega arith in
+    ap (λ (x : ℕ). version x ((256 * major + minor) % 256)) a ∙ ap (version major) b
+
+pub all-versions : (c d v m n trust : ℕ) → v ≡ pick (leb d c) d c → m ≡ pick (leb 289 v) 1 0 → n ≡ pick (leb 291 v) 1 0
+    → (c / 256 ∷ c % 256 ∷ d / 256 ∷ d % 256 ∷ v / 256 ∷ v % 256 ∷ m ∷ n ∷ trust ∷ 0 ∷ 0 ∷ 0 ∷ []) ≡ versions (versionIn c) (versionIn d) trust
 all-versions c d v m n trust e f g =
-    ap (λ (x : ℕ). c .major ∷ c .minor ∷ d .major ∷ d .minor ∷ v .major ∷ v .minor ∷ x ∷ n ∷ trust ∷ 0 ∷ 0 ∷ 0 ∷ []) f
-    ∙ ap (λ (x : ℕ). c .major ∷ c .minor ∷ d .major ∷ d .minor ∷ v .major ∷ v .minor ∷ pick (atLeast v (version 1 33)) 1 0 ∷ x ∷ trust ∷ 0 ∷ 0 ∷ 0 ∷ []) g
-    ∙ ap (λ (x : Version). c .major ∷ c .minor ∷ d .major ∷ d .minor ∷ x .major ∷ x .minor ∷ pick (atLeast x (version 1 33)) 1 0 ∷ pick (atLeast x (version 1 35)) 1 0 ∷ trust ∷ 0 ∷ 0 ∷ 0 ∷ []) e
+    let k : m ≡ pick (atLeast (versionIn v) (version 1 33)) 1 0 = f ∙ ap (λ (b : Bool). pick {A = ℕ} b 1 0) (in-order v 289) in
+    let l : n ≡ pick (atLeast (versionIn v) (version 1 35)) 1 0 = g ∙ ap (λ (b : Bool). pick {A = ℕ} b 1 0) (in-order v 291) in
+    ap (λ (x : ℕ). c / 256 ∷ c % 256 ∷ d / 256 ∷ d % 256 ∷ v / 256 ∷ v % 256 ∷ x ∷ n ∷ trust ∷ 0 ∷ 0 ∷ 0 ∷ []) k
+    ∙ ap (λ (x : ℕ). c / 256 ∷ c % 256 ∷ d / 256 ∷ d % 256 ∷ v / 256 ∷ v % 256 ∷ pick (atLeast (versionIn v) (version 1 33)) 1 0 ∷ x ∷ trust ∷ 0 ∷ 0 ∷ 0 ∷ []) l
+    ∙ ap (λ (x : Version). c / 256 ∷ c % 256 ∷ d / 256 ∷ d % 256 ∷ x .major ∷ x .minor ∷ pick (atLeast x (version 1 33)) 1 0 ∷ pick (atLeast x (version 1 35)) 1 0 ∷ trust ∷ 0 ∷ 0 ∷ 0 ∷ [])
+    (smaller-in c d v e)
 
 -- ---- answers
-module _ (h : Sofar) (c : Version) where
-  pub answer-refused : (x : Refusal) (f : Record) → h .outcome ≡ Refused x → f ≡ blank
-      → record { outcome = h .outcome; kind = 0; ends = 0; ends2 = 0; found = f } ≡ answerAs (onward (said h) (handshakeAnswer c))
-  answer-refused x f e q =
-      ap (λ (r : Record). record { outcome = h .outcome; kind = 0; ends = 0; ends2 = 0; found = r }) q
-      ∙ ap (λ (o : Outcome). record { outcome = o; kind = 0; ends = 0; ends2 = 0; found = blank }) e
-      ∙ ap answerAs (stays h (handshakeAnswer c) x e)
-
-  abbrev reply : Outcome → List ℕ → Answer
-  reply o ns =
+module _ (h : Answer) (c : ℕ) where
+  abbrev reply : List ℕ → Answer
+  reply ns =
       record {
-        outcome = o;
+        outcome = Fine;
         kind = 0;
-        ends = h .«client_ends»;
-        ends2 = h .«daemon_ends»;
+        ends = h .ends;
+        ends2 = h .ends2;
         found = record { numbers = ns; counts = h .found .counts; present = h .found .present; entries = h .found .entries; payload = h .found .payload };
       }
 
-  pub answer-fine : (ns : List ℕ) (d : Version) (trust : ℕ) → h .outcome ≡ Fine → ns ≡ versions c d trust → d ≡ fromWire (numberIn (h .found) 3)
-      → trust ≡ numberIn (h .found) 4 → reply (h .outcome) ns ≡ answerAs (onward (said h) (handshakeAnswer c))
-  answer-fine ns d trust e f g k =
-      ap (λ (o : Outcome). reply o ns) e
-      ∙ ap (reply Fine) (f ∙ ap (λ (v : Version). versions c v trust) g ∙ ap (versions c (fromWire (numberIn (h .found) 3))) k)
-      ∙ ap answerAs (goes h (handshakeAnswer c) e)
+  pub replied : (ns : List ℕ) (d trust : ℕ) → ns ≡ versions (versionIn c) (versionIn d) trust → d ≡ numberIn (h .found) 3 % 65536 → trust ≡ numberIn (h .found) 4
+      → reply ns ≡ answerAs (handshakeAnswer (versionIn c) (bothOf h))
+  replied ns d trust f g k =
+      ap reply (f ∙ ap (λ (v : Version). versions (versionIn c) v trust) (wire-in (numberIn (h .found) 3) d g) ∙ ap (versions (versionIn c) (fromWire (numberIn (h .found) 3))) k)
+
+-- after the last condition
+module _ (o : Result Both) (h : Answer) (k : Both → Result Both) (e : said h ≡ onward o k) (c : Version) where
+  pub end-refused : (x : Refusal) → h .outcome ≡ Refused x → (z : Answer) → z ≡ answerAs (refusedBy x) → z ≡ answerAs (onward (onward o k) (handshakeAnswer c))
+  end-refused x f z g = g ∙ ap answerAs (stays false h (handshakeAnswer c) x f ∙ ap (λ (p : Result Both). onward p (handshakeAnswer c)) e)
+
+  pub end-fine : h .outcome ≡ Fine → (z : Answer) → z ≡ answerAs (handshakeAnswer c (bothOf h)) → z ≡ answerAs (onward (onward o k) (handshakeAnswer c))
+  end-fine f z g = g ∙ ap answerAs (goes false h (handshakeAnswer c) f ∙ ap (λ (p : Result Both). onward p (handshakeAnswer c)) e)

@@ -1,7 +1,7 @@
 -- What the code has heard so far, as `layouts` says it, and what a turn and a test make of it.
 use Prim.Native.Nat.{ℕ}
 use mathlib.Core.List.{List}
-use mathlib.Core.Bool.{Bool}
+use mathlib.Core.Bool.{Bool, false}
 use Rattle.layouts.specs.declared.Refusal.{Refusal}
 use Rattle.layouts.specs.Primitive.{pick, Result, ok, onward}
 use Rattle.layouts.specs.Refusal.{refusedBy}
@@ -10,10 +10,9 @@ use Rattle.layouts.specs.Pieces.{run}
 use Rattle.layouts.specs.Record.{blank}
 use Rattle.layouts.specs.Judge.{Ended, judgeOf}
 use Rattle.layouts.specs.Handshake.{Both, onStream}
-use Rattle.judge.specs.declared.Outcome.{Outcome}
-use Rattle.judge.specs.declared.Outcome.the-variants.{Fine, Refused}
-use Rattle.judge.specs.declared.Answer.{Answer}
-use Rattle.handshake.specs.declared.Sofar.{Sofar}
+use Rattle.walk_judge.specs.declared.Outcome.{Outcome}
+use Rattle.walk_judge.specs.declared.Outcome.the-variants.{Fine, Refused}
+use Rattle.walk_judge.specs.declared.Answer.{Answer}
 
 abbrev pub unlessRefused : {A : Type 0} → Outcome → A → Result A
 unlessRefused Fine a = ok a
@@ -23,14 +22,19 @@ unlessRefused (Refused r) a = refusedBy r
 abbrev pub start : Both
 start = record { found = blank; clientEnds = 0; daemonEnds = 0 }
 
-abbrev pub bothOf : Sofar → Both
-bothOf h = record { found = h .found; clientEnds = h .«client_ends»; daemonEnds = h .«daemon_ends» }
+-- `ends` is where the next turn begins, and that may be the daemon's
+abbrev pub bothOn : (daemons : Bool) → Answer → Both
+bothOn d h = record { found = h .found; clientEnds = pick d (h .ends2) (h .ends); daemonEnds = pick d (h .ends) (h .ends2) }
 
-unfoldable pub said : Sofar → Result Both
-said h = unlessRefused (h .outcome) (bothOf h)
+unfoldable pub saidOn : (daemons : Bool) → Answer → Result Both
+saidOn d h = unlessRefused (h .outcome) (bothOn d h)
 
-unfoldable pub judgedOf : Answer → Result Ended
-judgedOf a = unlessRefused (a .outcome) (record { found = a .found; ends = a .ends })
+-- before a turn of the client's
+abbrev pub bothOf : Answer → Both
+bothOf h = bothOn false h
+
+abbrev pub said : Answer → Result Both
+said h = saidOn false h
 
 -- the place of the stream that a turn is on
 abbrev pub placeOn : Bool → Both → ℕ

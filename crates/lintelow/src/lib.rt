@@ -1,21 +1,13 @@
 // The C boundary: numbers and byte slices. A call returns 0 or the refusal's number and writes its answer into the block; a block that is too short is
-// refused before all else: `block::put` refuses it, and a call that lends other room looks before it reads.
+// refused before all else: `lintelow_answers::put` refuses it, and a call that lends other room looks before it reads.
 ghost use mathlib.Core.Path.{_≡_};
-ghost use mathlib.Core.List.{[]};
-ghost use Prim.Native.Nat.{_/_};
-ghost use lib.ListN.{length};
 ghost use Rattle.layouts.specs.Primitive.{version};
-ghost use Rattle.layouts.specs.Pieces.{run};
-ghost use Rattle.layouts.specs.Record.{blank};
-ghost use Rattle.layouts.specs.Judge.{entriesOf, lentAfter};
-ghost use Rattle.layouts.specs.Calls.{argumentsTree, skippedTree, replyTree, skipOpArgs, skipDaemonResult, payloadAfter};
-ghost use Rattle.layouts.specs.Stderr.{stderrLoop, readStderrLoop, readStderrWithError, errorPieces};
-ghost use Rattle.layouts.specs.Handshake.{hear, heardEntries, handshake, daemonHandshake, parseHandshake, parseDaemonHandshake};
-ghost use Rattle.output.specs.Numbers.{bytesOf};
-ghost use Rattle.judge.specs.Judged.{answerAs};
-ghost use Rattle.protocol.specs.Bytes.{argumentsRead, replyRead, bytesAfter};
-ghost use Rattle.skips.specs.Skips.{stringSkipped, resultSkipped};
-ghost use Rattle.block.specs.Block.{guarded, numberOf, blockAfter};
+ghost use Rattle.layouts.specs.Calls.{skipDaemonResult};
+ghost use Rattle.layouts.specs.Stderr.{readStderrLoop};
+ghost use Rattle.walk_judge.specs.Judged.{answerAs};
+ghost use Rattle.lintelow_answers.specs.Skips.{resultSkipped};
+ghost use Rattle.lintelow_answers.specs.Block.{numberOf, blockAfter};
+ghost use Rattle.lintelow.specs.Calls.{argumentsCalled, replyCalled, argumentsSkipped, errorCalled, handshakeCalled, daemonCalled};
 
 pub mod reads;
 pub mod writes;
@@ -30,12 +22,12 @@ pub extern "C" fn lintelow_read_op_args(
     payload: &mut [u8],
     block: &mut [u8],
 ) -> u64
-    ensures number { λ r. ⌜ r ≡ numberOf (now (block .entry)) (answerAs (argumentsRead op (version major minor) (now (s .entry)) (now (entries .entry)) (now (payload .entry)))) ⌝ }
-    ensures block { λ r. ⌜ now (block .exit) ≡ blockAfter (now (block .entry)) (answerAs (argumentsRead op (version major minor) (now (s .entry)) (now (entries .entry)) (now (payload .entry)))) ⌝ }
-    ensures entries { λ r. ⌜ now (entries .exit) ≡ bytesAfter (guarded (now (block .entry)) (argumentsRead op (version major minor) (now (s .entry)) (now (entries .entry)) (now (payload .entry)))) (run (argumentsTree op (version major minor)) (now (s .entry)) 0) (now (entries .entry)) ⌝ }
-    ensures payload { λ r. ⌜ now (payload .exit) ≡ payloadAfter (guarded (now (block .entry)) (argumentsRead op (version major minor) (now (s .entry)) (now (entries .entry)) (now (payload .entry)))) (now (s .entry)) (run (argumentsTree op (version major minor)) (now (s .entry)) 0) (now (payload .entry)) ⌝ }
+    ensures number { λ r. ⌜ r ≡ argumentsCalled op (version major minor) (now (s .entry)) (now (entries .entry)) (now (payload .entry)) (now (block .entry)) .number ⌝ }
+    ensures block { λ r. ⌜ now (block .exit) ≡ argumentsCalled op (version major minor) (now (s .entry)) (now (entries .entry)) (now (payload .entry)) (now (block .entry)) .block ⌝ }
+    ensures entries { λ r. ⌜ now (entries .exit) ≡ argumentsCalled op (version major minor) (now (s .entry)) (now (entries .entry)) (now (payload .entry)) (now (block .entry)) .entries ⌝ }
+    ensures payload { λ r. ⌜ now (payload .exit) ≡ argumentsCalled op (version major minor) (now (s .entry)) (now (entries .entry)) (now (payload .entry)) (now (block .entry)) .payload ⌝ }
 {
-    if block.len() < block::BLOCK {
+    if block.len() < lintelow_answers::BLOCK {
         return layouts::OUTPUT_FULL;
     }
     let mut numbers = [0u64; 12];
@@ -50,7 +42,7 @@ pub extern "C" fn lintelow_read_op_args(
         &mut numbers,
         &mut counts,
     );
-    block::put(block, judge::answer_of(said, numbers, counts))
+    lintelow_answers::put(block, walk_judge::answer_of(said, numbers, counts))
 }
 
 #[no_mangle]
@@ -63,12 +55,12 @@ pub extern "C" fn lintelow_read_daemon_result(
     payload: &mut [u8],
     block: &mut [u8],
 ) -> u64
-    ensures number { λ r. ⌜ r ≡ numberOf (now (block .entry)) (answerAs (replyRead op (version major minor) (now (s .entry)) (now (entries .entry)) (now (payload .entry)))) ⌝ }
-    ensures block { λ r. ⌜ now (block .exit) ≡ blockAfter (now (block .entry)) (answerAs (replyRead op (version major minor) (now (s .entry)) (now (entries .entry)) (now (payload .entry)))) ⌝ }
-    ensures entries { λ r. ⌜ now (entries .exit) ≡ bytesAfter (guarded (now (block .entry)) (replyRead op (version major minor) (now (s .entry)) (now (entries .entry)) (now (payload .entry)))) (run (replyTree op (version major minor)) (now (s .entry)) 0) (now (entries .entry)) ⌝ }
-    ensures payload { λ r. ⌜ now (payload .exit) ≡ payloadAfter (guarded (now (block .entry)) (replyRead op (version major minor) (now (s .entry)) (now (entries .entry)) (now (payload .entry)))) (now (s .entry)) (run (replyTree op (version major minor)) (now (s .entry)) 0) (now (payload .entry)) ⌝ }
+    ensures number { λ r. ⌜ r ≡ replyCalled op (version major minor) (now (s .entry)) (now (entries .entry)) (now (payload .entry)) (now (block .entry)) .number ⌝ }
+    ensures block { λ r. ⌜ now (block .exit) ≡ replyCalled op (version major minor) (now (s .entry)) (now (entries .entry)) (now (payload .entry)) (now (block .entry)) .block ⌝ }
+    ensures entries { λ r. ⌜ now (entries .exit) ≡ replyCalled op (version major minor) (now (s .entry)) (now (entries .entry)) (now (payload .entry)) (now (block .entry)) .entries ⌝ }
+    ensures payload { λ r. ⌜ now (payload .exit) ≡ replyCalled op (version major minor) (now (s .entry)) (now (entries .entry)) (now (payload .entry)) (now (block .entry)) .payload ⌝ }
 {
-    if block.len() < block::BLOCK {
+    if block.len() < lintelow_answers::BLOCK {
         return layouts::OUTPUT_FULL;
     }
     let mut numbers = [0u64; 12];
@@ -83,7 +75,7 @@ pub extern "C" fn lintelow_read_daemon_result(
         &mut numbers,
         &mut counts,
     );
-    block::put(block, judge::answer_of(said, numbers, counts))
+    lintelow_answers::put(block, walk_judge::answer_of(said, numbers, counts))
 }
 
 // No room is lent: start and length of the one string are numbers 1 and 2 of the block's twelve.
@@ -95,11 +87,11 @@ pub extern "C" fn lintelow_skip_op_args(
     s: &[u8],
     block: &mut [u8],
 ) -> u64
-    ensures number { λ r. ⌜ r ≡ numberOf (now (block .entry)) (answerAs (stringSkipped (skipOpArgs op (version major minor) (now (s .entry))) (entriesOf (run (skippedTree op (version major minor)) (now (s .entry)) 0)))) ⌝ }
-    ensures block { λ r. ⌜ now (block .exit) ≡ blockAfter (now (block .entry)) (answerAs (stringSkipped (skipOpArgs op (version major minor) (now (s .entry))) (entriesOf (run (skippedTree op (version major minor)) (now (s .entry)) 0)))) ⌝ }
+    ensures number { λ r. ⌜ r ≡ numberOf (now (block .entry)) (argumentsSkipped op (version major minor) (now (s .entry))) ⌝ }
+    ensures block { λ r. ⌜ now (block .exit) ≡ blockAfter (now (block .entry)) (argumentsSkipped op (version major minor) (now (s .entry))) ⌝ }
 {
-    let passed = skips::skip_op_args(op, major, minor, s);
-    block::put(block, passed)
+    let passed = lintelow_answers::skip_op_args(op, major, minor, s);
+    lintelow_answers::put(block, passed)
 }
 
 #[no_mangle]
@@ -113,8 +105,8 @@ pub extern "C" fn lintelow_skip_daemon_result(
     ensures number { λ r. ⌜ r ≡ numberOf (now (block .entry)) (answerAs (resultSkipped (skipDaemonResult op (version major minor) (now (s .entry))))) ⌝ }
     ensures block { λ r. ⌜ now (block .exit) ≡ blockAfter (now (block .entry)) (answerAs (resultSkipped (skipDaemonResult op (version major minor) (now (s .entry))))) ⌝ }
 {
-    let past = skips::skip_daemon_result(op, major, minor, s);
-    block::put(block, past)
+    let past = lintelow_answers::skip_daemon_result(op, major, minor, s);
+    lintelow_answers::put(block, past)
 }
 
 #[no_mangle]
@@ -123,7 +115,7 @@ pub extern "C" fn lintelow_read_stderr_loop(s: &[u8], block: &mut [u8]) -> u64
     ensures block { λ r. ⌜ now (block .exit) ≡ blockAfter (now (block .entry)) (answerAs (readStderrLoop (now (s .entry)))) ⌝ }
 {
     let stopped = stderr::read_stderr_loop(s);
-    block::put(block, stopped)
+    lintelow_answers::put(block, stopped)
 }
 
 #[no_mangle]
@@ -132,15 +124,15 @@ pub extern "C" fn lintelow_read_stderr_with_error(
     entries: &mut [u8],
     block: &mut [u8],
 ) -> u64
-    ensures number { λ r. ⌜ r ≡ numberOf (now (block .entry)) (answerAs (readStderrWithError (now (s .entry)) (length (now (entries .entry)) / 16))) ⌝ }
-    ensures block { λ r. ⌜ now (block .exit) ≡ blockAfter (now (block .entry)) (answerAs (readStderrWithError (now (s .entry)) (length (now (entries .entry)) / 16))) ⌝ }
-    ensures entries { λ r. ⌜ now (entries .exit) ≡ bytesAfter (guarded (now (block .entry)) (readStderrWithError (now (s .entry)) (length (now (entries .entry)) / 16))) (errorPieces (now (s .entry)) (stderrLoop (now (s .entry)))) (now (entries .entry)) ⌝ }
+    ensures number { λ r. ⌜ r ≡ errorCalled (now (s .entry)) (now (entries .entry)) (now (block .entry)) .number ⌝ }
+    ensures block { λ r. ⌜ now (block .exit) ≡ errorCalled (now (s .entry)) (now (entries .entry)) (now (block .entry)) .block ⌝ }
+    ensures entries { λ r. ⌜ now (entries .exit) ≡ errorCalled (now (s .entry)) (now (entries .entry)) (now (block .entry)) .room ⌝ }
 {
-    if block.len() < block::BLOCK {
+    if block.len() < lintelow_answers::BLOCK {
         return layouts::OUTPUT_FULL;
     }
     let told = stderr::read_stderr_with_error_bytes(s, entries);
-    block::put(block, told)
+    lintelow_answers::put(block, told)
 }
 
 #[no_mangle]
@@ -150,15 +142,15 @@ pub extern "C" fn lintelow_parse_handshake(
     entries: &mut [u8],
     block: &mut [u8],
 ) -> u64
-    ensures number { λ r. ⌜ r ≡ numberOf (now (block .entry)) (answerAs (parseHandshake (now (client .entry)) (now (daemon .entry)) (length (now (entries .entry)) / 16))) ⌝ }
-    ensures block { λ r. ⌜ now (block .exit) ≡ blockAfter (now (block .entry)) (answerAs (parseHandshake (now (client .entry)) (now (daemon .entry)) (length (now (entries .entry)) / 16))) ⌝ }
-    ensures entries { λ r. ⌜ now (entries .exit) ≡ lentAfter (guarded (now (block .entry)) (parseHandshake (now (client .entry)) (now (daemon .entry)) (length (now (entries .entry)) / 16))) (bytesOf (heardEntries (hear handshake (now (client .entry)) (now (daemon .entry)) 0 0 blank))) (now (entries .entry)) ⌝ }
+    ensures number { λ r. ⌜ r ≡ handshakeCalled (now (client .entry)) (now (daemon .entry)) (now (entries .entry)) (now (block .entry)) .number ⌝ }
+    ensures block { λ r. ⌜ now (block .exit) ≡ handshakeCalled (now (client .entry)) (now (daemon .entry)) (now (entries .entry)) (now (block .entry)) .block ⌝ }
+    ensures entries { λ r. ⌜ now (entries .exit) ≡ handshakeCalled (now (client .entry)) (now (daemon .entry)) (now (entries .entry)) (now (block .entry)) .room ⌝ }
 {
-    if block.len() < block::BLOCK {
+    if block.len() < lintelow_answers::BLOCK {
         return layouts::OUTPUT_FULL;
     }
     let greeted = handshake::parse_handshake_bytes(client, daemon, entries);
-    block::put(block, greeted)
+    lintelow_answers::put(block, greeted)
 }
 
 #[no_mangle]
@@ -169,13 +161,13 @@ pub extern "C" fn lintelow_parse_daemon_handshake(
     entries: &mut [u8],
     block: &mut [u8],
 ) -> u64
-    ensures number { λ r. ⌜ r ≡ numberOf (now (block .entry)) (answerAs (parseDaemonHandshake (version major minor) (now (daemon .entry)) (length (now (entries .entry)) / 16))) ⌝ }
-    ensures block { λ r. ⌜ now (block .exit) ≡ blockAfter (now (block .entry)) (answerAs (parseDaemonHandshake (version major minor) (now (daemon .entry)) (length (now (entries .entry)) / 16))) ⌝ }
-    ensures entries { λ r. ⌜ now (entries .exit) ≡ lentAfter (guarded (now (block .entry)) (parseDaemonHandshake (version major minor) (now (daemon .entry)) (length (now (entries .entry)) / 16))) (bytesOf (heardEntries (hear (daemonHandshake (version major minor)) [] (now (daemon .entry)) 0 0 blank))) (now (entries .entry)) ⌝ }
+    ensures number { λ r. ⌜ r ≡ daemonCalled (version major minor) (now (daemon .entry)) (now (entries .entry)) (now (block .entry)) .number ⌝ }
+    ensures block { λ r. ⌜ now (block .exit) ≡ daemonCalled (version major minor) (now (daemon .entry)) (now (entries .entry)) (now (block .entry)) .block ⌝ }
+    ensures entries { λ r. ⌜ now (entries .exit) ≡ daemonCalled (version major minor) (now (daemon .entry)) (now (entries .entry)) (now (block .entry)) .room ⌝ }
 {
-    if block.len() < block::BLOCK {
+    if block.len() < lintelow_answers::BLOCK {
         return layouts::OUTPUT_FULL;
     }
     let heard = handshake::parse_daemon_handshake_bytes(major, minor, daemon, entries);
-    block::put(block, heard)
+    lintelow_answers::put(block, heard)
 }

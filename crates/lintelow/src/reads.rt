@@ -1,20 +1,15 @@
 // Readers and skippers of one field from a place on, views and tests.
 ghost use mathlib.Core.Path.{_≡_};
-ghost use Prim.Native.Nat.{_/_};
-ghost use lib.ListN.{length};
 ghost use Rattle.layouts.specs.Primitive.{ok, fromWire};
-ghost use Rattle.layouts.specs.Shape.{asCount, kept, set, framed};
-ghost use Rattle.layouts.specs.Pieces.{run};
-ghost use Rattle.layouts.specs.Judge.{entriesOf, payloadOf, lentAfter};
-ghost use Rattle.layouts.specs.Calls.{field, readNumber, readU32, peekNumber, skipString, readStringSet, skipStringSet, readFramed, skipFramed, opHasClientFramedData};
+ghost use Rattle.layouts.specs.Calls.{readNumber, readU32, peekNumber, skipString, skipStringSet, skipFramed, opHasClientFramedData};
 ghost use Rattle.layouts.specs.Writers.{isStorePath};
-ghost use Rattle.output.specs.Numbers.{bytesOf};
-ghost use Rattle.judge.specs.Judged.{answerAs};
+ghost use Rattle.walk_judge.specs.Judged.{answerAs};
 ghost use Rattle.wire.specs.Answers.{readBytes, readText};
-ghost use Rattle.answers.specs.Answers.{ended, passedTo, stringRead, peekedAt, yesNo, versionTold};
-ghost use Rattle.entry_bytes.specs.Entries.{entriesIn, entryRead};
-ghost use Rattle.block.specs.Block.{guarded, numberOf, blockAfter};
-use versions::handshake::ProtocolVersion;
+ghost use Rattle.lintelow_answers.specs.Answers.{ended, passedTo, stringRead, peekedAt, yesNo, entryRead, versionTold};
+ghost use Rattle.entries.specs.Entries.{entriesIn};
+ghost use Rattle.lintelow_answers.specs.Block.{numberOf, blockAfter};
+ghost use Rattle.lintelow.specs.Calls.{setCalled, framedCalled};
+use versions::ProtocolVersion;
 use wire::Cursor;
 
 #[no_mangle]
@@ -24,7 +19,7 @@ pub extern "C" fn lintelow_read_u64(s: &[u8], at: usize, block: &mut [u8]) -> u6
 {
     let c = Cursor { at };
     let r = c.read_u64(s);
-    block::put(block, answers::number(r))
+    lintelow_answers::put(block, lintelow_answers::number(r))
 }
 
 #[no_mangle]
@@ -34,7 +29,7 @@ pub extern "C" fn lintelow_read_u32(s: &[u8], at: usize, block: &mut [u8]) -> u6
 {
     let c = Cursor { at };
     let r = c.read_u32(s);
-    block::put(block, answers::number(r))
+    lintelow_answers::put(block, lintelow_answers::number(r))
 }
 
 #[no_mangle]
@@ -44,7 +39,7 @@ pub extern "C" fn lintelow_peek_u64(s: &[u8], at: usize, block: &mut [u8]) -> u6
 {
     let c = Cursor { at };
     let r = c.peek_u64(s);
-    block::put(block, answers::peek(at, r))
+    lintelow_answers::put(block, lintelow_answers::peek(at, r))
 }
 
 #[no_mangle]
@@ -54,7 +49,7 @@ pub extern "C" fn lintelow_read_bytes(s: &[u8], at: usize, block: &mut [u8]) -> 
 {
     let c = Cursor { at };
     let r = c.read_bytes(s);
-    block::put(block, answers::string(r))
+    lintelow_answers::put(block, lintelow_answers::string(r))
 }
 
 #[no_mangle]
@@ -64,7 +59,7 @@ pub extern "C" fn lintelow_read_string(s: &[u8], at: usize, block: &mut [u8]) ->
 {
     let c = Cursor { at };
     let r = c.read_string(s);
-    block::put(block, answers::string(r))
+    lintelow_answers::put(block, lintelow_answers::string(r))
 }
 
 #[no_mangle]
@@ -74,7 +69,7 @@ pub extern "C" fn lintelow_skip_string(s: &[u8], at: usize, block: &mut [u8]) ->
 {
     let c = Cursor { at };
     let r = c.skip_string(s);
-    block::put(block, answers::passed(r))
+    lintelow_answers::put(block, lintelow_answers::passed(r))
 }
 
 #[no_mangle]
@@ -84,15 +79,16 @@ pub extern "C" fn lintelow_read_string_set(
     entries: &mut [u8],
     block: &mut [u8],
 ) -> u64
-    ensures number { λ r. ⌜ r ≡ numberOf (now (block .entry)) (answerAs (ended (readStringSet (now (s .entry)) at (length (now (entries .entry)) / 16)))) ⌝ }
-    ensures block { λ r. ⌜ now (block .exit) ≡ blockAfter (now (block .entry)) (answerAs (ended (readStringSet (now (s .entry)) at (length (now (entries .entry)) / 16)))) ⌝ }
-    ensures entries { λ r. ⌜ now (entries .exit) ≡ lentAfter (guarded (now (block .entry)) (readStringSet (now (s .entry)) at (length (now (entries .entry)) / 16))) (bytesOf (entriesOf (run (field (set kept (asCount 0))) (now (s .entry)) at))) (now (entries .entry)) ⌝ }
+    ensures number { λ r. ⌜ r ≡ setCalled (now (s .entry)) at (now (entries .entry)) (now (block .entry)) .number ⌝ }
+    ensures block { λ r. ⌜ now (block .exit) ≡ setCalled (now (s .entry)) at (now (entries .entry)) (now (block .entry)) .block ⌝ }
+    ensures entries { λ r. ⌜ now (entries .exit) ≡ setCalled (now (s .entry)) at (now (entries .entry)) (now (block .entry)) .room ⌝ }
 {
-    if block.len() < block::BLOCK {
+    if block.len() < lintelow_answers::BLOCK {
         return layouts::OUTPUT_FULL;
     }
-    let a = wire_bytes::read_string_set(s, at, entries);
-    block::put(block, a)
+    let c = Cursor { at };
+    let r = c.read_string_set_bytes(s, entries);
+    lintelow_answers::put(block, lintelow_answers::count(r))
 }
 
 #[no_mangle]
@@ -102,7 +98,7 @@ pub extern "C" fn lintelow_skip_string_set(s: &[u8], at: usize, block: &mut [u8]
 {
     let c = Cursor { at };
     let r = c.skip_string_set(s);
-    block::put(block, answers::number(r))
+    lintelow_answers::put(block, lintelow_answers::number(r))
 }
 
 #[no_mangle]
@@ -112,16 +108,16 @@ pub extern "C" fn lintelow_read_framed(
     payload: &mut [u8],
     block: &mut [u8],
 ) -> u64
-    ensures number { λ r. ⌜ r ≡ numberOf (now (block .entry)) (answerAs (ended (readFramed (now (s .entry)) at (length (now (payload .entry)))))) ⌝ }
-    ensures block { λ r. ⌜ now (block .exit) ≡ blockAfter (now (block .entry)) (answerAs (ended (readFramed (now (s .entry)) at (length (now (payload .entry)))))) ⌝ }
-    ensures payload { λ r. ⌜ now (payload .exit) ≡ lentAfter (guarded (now (block .entry)) (readFramed (now (s .entry)) at (length (now (payload .entry))))) (payloadOf (now (s .entry)) (run (field framed) (now (s .entry)) at)) (now (payload .entry)) ⌝ }
+    ensures number { λ r. ⌜ r ≡ framedCalled (now (s .entry)) at (now (payload .entry)) (now (block .entry)) .number ⌝ }
+    ensures block { λ r. ⌜ now (block .exit) ≡ framedCalled (now (s .entry)) at (now (payload .entry)) (now (block .entry)) .block ⌝ }
+    ensures payload { λ r. ⌜ now (payload .exit) ≡ framedCalled (now (s .entry)) at (now (payload .entry)) (now (block .entry)) .room ⌝ }
 {
-    if block.len() < block::BLOCK {
+    if block.len() < lintelow_answers::BLOCK {
         return layouts::OUTPUT_FULL;
     }
     let c = Cursor { at };
     let r = c.read_framed(s, payload);
-    block::put(block, answers::total(r))
+    lintelow_answers::put(block, lintelow_answers::total(r))
 }
 
 #[no_mangle]
@@ -131,7 +127,7 @@ pub extern "C" fn lintelow_skip_framed(s: &[u8], at: usize, block: &mut [u8]) ->
 {
     let c = Cursor { at };
     let r = c.skip_framed(s);
-    block::put(block, answers::number(r))
+    lintelow_answers::put(block, lintelow_answers::number(r))
 }
 
 #[no_mangle]
@@ -144,8 +140,9 @@ pub extern "C" fn lintelow_entry(
     ensures number { λ r. ⌜ r ≡ numberOf (now (block .entry)) (answerAs (entryRead (now (bytes .entry)) (entriesIn (now (entries .entry))) index)) ⌝ }
     ensures block { λ r. ⌜ now (block .exit) ≡ blockAfter (now (block .entry)) (answerAs (entryRead (now (bytes .entry)) (entriesIn (now (entries .entry))) index)) ⌝ }
 {
-    let a = entry_bytes::find_entry(bytes, entries, index);
-    block::put(block, a)
+    let none: [u64; 0] = [];
+    let r = entries::find(bytes, &none, entries, index);
+    lintelow_answers::put(block, lintelow_answers::entry(r))
 }
 
 #[no_mangle]
@@ -154,7 +151,7 @@ pub extern "C" fn lintelow_extract_store_path(c: &[u8], block: &mut [u8]) -> u64
     ensures block { λ r. ⌜ now (block .exit) ≡ blockAfter (now (block .entry)) (answerAs (yesNo (ok (isStorePath (now (c .entry)))))) ⌝ }
 {
     let b = views::extract_store_path(c);
-    block::put(block, answers::yes_no(b))
+    lintelow_answers::put(block, lintelow_answers::yes_no(b))
 }
 
 #[no_mangle]
@@ -162,8 +159,8 @@ pub extern "C" fn lintelow_op_has_client_framed_data(op: u64, block: &mut [u8]) 
     ensures number { λ r. ⌜ r ≡ numberOf (now (block .entry)) (answerAs (yesNo (opHasClientFramedData op))) ⌝ }
     ensures block { λ r. ⌜ now (block .exit) ≡ blockAfter (now (block .entry)) (answerAs (yesNo (opHasClientFramedData op))) ⌝ }
 {
-    let f = ops::op_has_client_framed_data(op);
-    block::put(block, answers::framed(f))
+    let f = table_operations::op_has_client_framed_data(op);
+    lintelow_answers::put(block, lintelow_answers::framed(f))
 }
 
 #[no_mangle]
@@ -172,5 +169,5 @@ pub extern "C" fn lintelow_version_from_wire(wire: u64, block: &mut [u8]) -> u64
     ensures block { λ r. ⌜ now (block .exit) ≡ blockAfter (now (block .entry)) (answerAs (versionTold (fromWire wire))) ⌝ }
 {
     let v = ProtocolVersion::from_wire(wire);
-    block::put(block, answers::version(v))
+    lintelow_answers::put(block, lintelow_answers::version(v))
 }

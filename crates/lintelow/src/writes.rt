@@ -2,11 +2,11 @@
 ghost use mathlib.Core.Path.{_≡_};
 ghost use Rattle.layouts.specs.Primitive.{littleEnd, numberBytes};
 ghost use Rattle.layouts.specs.Judge.{lentAfter};
-ghost use Rattle.layouts.specs.Writers.{writing, stringBytes, framedBytes, modeText, pathsText, overridesText, writeString, textsOf, writeStringSet, outputOf};
-ghost use Rattle.judge.specs.Judged.{answerAs};
-ghost use Rattle.answers.specs.Answers.{written};
-ghost use Rattle.entry_bytes.specs.Entries.{entriesIn};
-ghost use Rattle.block.specs.Block.{guarded, numberOf, blockAfter};
+ghost use Rattle.layouts.specs.Writers.{writing, stringBytes, framedBytes, modeText, pathsText, overridesText, writeString};
+ghost use Rattle.walk_judge.specs.Judged.{answerAs};
+ghost use Rattle.lintelow_answers.specs.Answers.{written};
+ghost use Rattle.lintelow_answers.specs.Block.{guarded, numberOf, blockAfter};
+ghost use Rattle.lintelow.specs.Calls.{setWritten};
 
 #[no_mangle]
 pub extern "C" fn lintelow_write_u64(out: &mut [u8], x: u64, block: &mut [u8]) -> u64
@@ -14,11 +14,11 @@ pub extern "C" fn lintelow_write_u64(out: &mut [u8], x: u64, block: &mut [u8]) -
     ensures block { λ r. ⌜ now (block .exit) ≡ blockAfter (now (block .entry)) (answerAs (written (writing (numberBytes x) (now (out .entry))))) ⌝ }
     ensures out { λ r. ⌜ now (out .exit) ≡ lentAfter (guarded (now (block .entry)) (writing (numberBytes x) (now (out .entry)))) (numberBytes x) (now (out .entry)) ⌝ }
 {
-    if block.len() < block::BLOCK {
+    if block.len() < lintelow_answers::BLOCK {
         return layouts::OUTPUT_FULL;
     }
     let r = writers::write_u64(out, x);
-    block::put(block, answers::write(r))
+    lintelow_answers::put(block, lintelow_answers::write(r))
 }
 
 #[no_mangle]
@@ -27,11 +27,11 @@ pub extern "C" fn lintelow_write_u32(out: &mut [u8], x: u32, block: &mut [u8]) -
     ensures block { λ r. ⌜ now (block .exit) ≡ blockAfter (now (block .entry)) (answerAs (written (writing (littleEnd 4 x) (now (out .entry))))) ⌝ }
     ensures out { λ r. ⌜ now (out .exit) ≡ lentAfter (guarded (now (block .entry)) (writing (littleEnd 4 x) (now (out .entry)))) (littleEnd 4 x) (now (out .entry)) ⌝ }
 {
-    if block.len() < block::BLOCK {
+    if block.len() < lintelow_answers::BLOCK {
         return layouts::OUTPUT_FULL;
     }
     let r = writers::write_u32(out, x);
-    block::put(block, answers::write(r))
+    lintelow_answers::put(block, lintelow_answers::write(r))
 }
 
 #[no_mangle]
@@ -40,11 +40,11 @@ pub extern "C" fn lintelow_write_bytes(out: &mut [u8], c: &[u8], block: &mut [u8
     ensures block { λ r. ⌜ now (block .exit) ≡ blockAfter (now (block .entry)) (answerAs (written (writing (stringBytes (now (c .entry))) (now (out .entry))))) ⌝ }
     ensures out { λ r. ⌜ now (out .exit) ≡ lentAfter (guarded (now (block .entry)) (writing (stringBytes (now (c .entry))) (now (out .entry)))) (stringBytes (now (c .entry))) (now (out .entry)) ⌝ }
 {
-    if block.len() < block::BLOCK {
+    if block.len() < lintelow_answers::BLOCK {
         return layouts::OUTPUT_FULL;
     }
     let r = writers::write_bytes(out, c);
-    block::put(block, answers::write(r))
+    lintelow_answers::put(block, lintelow_answers::write(r))
 }
 
 #[no_mangle]
@@ -53,11 +53,11 @@ pub extern "C" fn lintelow_write_string(out: &mut [u8], c: &[u8], block: &mut [u
     ensures block { λ r. ⌜ now (block .exit) ≡ blockAfter (now (block .entry)) (answerAs (written (writeString (now (c .entry)) (now (out .entry))))) ⌝ }
     ensures out { λ r. ⌜ now (out .exit) ≡ lentAfter (guarded (now (block .entry)) (writeString (now (c .entry)) (now (out .entry)))) (stringBytes (now (c .entry))) (now (out .entry)) ⌝ }
 {
-    if block.len() < block::BLOCK {
+    if block.len() < lintelow_answers::BLOCK {
         return layouts::OUTPUT_FULL;
     }
     let r = writers::write_string(out, c);
-    block::put(block, answers::write(r))
+    lintelow_answers::put(block, lintelow_answers::write(r))
 }
 
 #[no_mangle]
@@ -68,15 +68,15 @@ pub extern "C" fn lintelow_write_string_set(
     count: usize,
     block: &mut [u8],
 ) -> u64
-    ensures number { λ r. ⌜ r ≡ numberOf (now (block .entry)) (answerAs (written (writeStringSet (now (bytes .entry)) (entriesIn (now (entries .entry))) count (now (out .entry))))) ⌝ }
-    ensures block { λ r. ⌜ now (block .exit) ≡ blockAfter (now (block .entry)) (answerAs (written (writeStringSet (now (bytes .entry)) (entriesIn (now (entries .entry))) count (now (out .entry))))) ⌝ }
-    ensures out { λ r. ⌜ now (out .exit) ≡ lentAfter (guarded (now (block .entry)) (writeStringSet (now (bytes .entry)) (entriesIn (now (entries .entry))) count (now (out .entry)))) (outputOf (textsOf (now (bytes .entry)) (entriesIn (now (entries .entry))) count)) (now (out .entry)) ⌝ }
+    ensures number { λ r. ⌜ r ≡ setWritten (now (bytes .entry)) (now (entries .entry)) count (now (out .entry)) (now (block .entry)) .number ⌝ }
+    ensures block { λ r. ⌜ now (block .exit) ≡ setWritten (now (bytes .entry)) (now (entries .entry)) count (now (out .entry)) (now (block .entry)) .block ⌝ }
+    ensures out { λ r. ⌜ now (out .exit) ≡ setWritten (now (bytes .entry)) (now (entries .entry)) count (now (out .entry)) (now (block .entry)) .room ⌝ }
 {
-    if block.len() < block::BLOCK {
+    if block.len() < lintelow_answers::BLOCK {
         return layouts::OUTPUT_FULL;
     }
-    let r = set_bytes::write_string_set(out, bytes, entries, count);
-    block::put(block, answers::write(r))
+    let r = writers_sets::write_string_set_bytes(out, bytes, entries, count);
+    lintelow_answers::put(block, lintelow_answers::write(r))
 }
 
 #[no_mangle]
@@ -85,11 +85,11 @@ pub extern "C" fn lintelow_write_framed(out: &mut [u8], c: &[u8], block: &mut [u
     ensures block { λ r. ⌜ now (block .exit) ≡ blockAfter (now (block .entry)) (answerAs (written (writing (framedBytes (now (c .entry))) (now (out .entry))))) ⌝ }
     ensures out { λ r. ⌜ now (out .exit) ≡ lentAfter (guarded (now (block .entry)) (writing (framedBytes (now (c .entry))) (now (out .entry)))) (framedBytes (now (c .entry))) (now (out .entry)) ⌝ }
 {
-    if block.len() < block::BLOCK {
+    if block.len() < lintelow_answers::BLOCK {
         return layouts::OUTPUT_FULL;
     }
     let r = writers::write_framed(out, c);
-    block::put(block, answers::write(r))
+    lintelow_answers::put(block, lintelow_answers::write(r))
 }
 
 #[no_mangle]
@@ -98,11 +98,11 @@ pub extern "C" fn lintelow_write_mode(out: &mut [u8], n: u64, block: &mut [u8]) 
     ensures block { λ r. ⌜ now (block .exit) ≡ blockAfter (now (block .entry)) (answerAs (written (writing (modeText n) (now (out .entry))))) ⌝ }
     ensures out { λ r. ⌜ now (out .exit) ≡ lentAfter (guarded (now (block .entry)) (writing (modeText n) (now (out .entry)))) (modeText n) (now (out .entry)) ⌝ }
 {
-    if block.len() < block::BLOCK {
+    if block.len() < lintelow_answers::BLOCK {
         return layouts::OUTPUT_FULL;
     }
     let r = writers::write_mode(out, n);
-    block::put(block, answers::write(r))
+    lintelow_answers::put(block, lintelow_answers::write(r))
 }
 
 #[no_mangle]
@@ -111,11 +111,11 @@ pub extern "C" fn lintelow_write_paths(out: &mut [u8], n: u64, block: &mut [u8])
     ensures block { λ r. ⌜ now (block .exit) ≡ blockAfter (now (block .entry)) (answerAs (written (writing (pathsText n) (now (out .entry))))) ⌝ }
     ensures out { λ r. ⌜ now (out .exit) ≡ lentAfter (guarded (now (block .entry)) (writing (pathsText n) (now (out .entry)))) (pathsText n) (now (out .entry)) ⌝ }
 {
-    if block.len() < block::BLOCK {
+    if block.len() < lintelow_answers::BLOCK {
         return layouts::OUTPUT_FULL;
     }
     let r = writers::write_paths(out, n);
-    block::put(block, answers::write(r))
+    lintelow_answers::put(block, lintelow_answers::write(r))
 }
 
 #[no_mangle]
@@ -124,9 +124,9 @@ pub extern "C" fn lintelow_write_overrides(out: &mut [u8], n: u64, block: &mut [
     ensures block { λ r. ⌜ now (block .exit) ≡ blockAfter (now (block .entry)) (answerAs (written (writing (overridesText n) (now (out .entry))))) ⌝ }
     ensures out { λ r. ⌜ now (out .exit) ≡ lentAfter (guarded (now (block .entry)) (writing (overridesText n) (now (out .entry)))) (overridesText n) (now (out .entry)) ⌝ }
 {
-    if block.len() < block::BLOCK {
+    if block.len() < lintelow_answers::BLOCK {
         return layouts::OUTPUT_FULL;
     }
     let r = writers::write_overrides(out, n);
-    block::put(block, answers::write(r))
+    lintelow_answers::put(block, lintelow_answers::write(r))
 }

@@ -8,8 +8,8 @@ use Rattle.layouts.specs.Primitive.{numberAt, padOf}
 use Rattle.layouts.specs.Pieces.{Text, whole, cut, bad, Chunk, part, last, wrong, textOf, chunkOf}
 use Rattle.layouts.specs.Calls.{peekNumber}
 use Rattle.layouts.proofs.Views.{TextView, no-length, too-long, no-contents, no-padding, is-whole, ChunkView, no-size, is-last, too-large, no-bytes, is-part, text-view, chunk-view, text-short, text-long, text-contents, text-cut, text-whole, chunk-short, chunk-last, chunk-long, chunk-cut, chunk-part}
-use Rattle.number.specs.declared.Number.{Number}
-use Rattle.number.specs.declared.Number.the-variants.{Value, Short}
+use Rattle.numbers.specs.declared.Number.{Number}
+use Rattle.numbers.specs.declared.Number.the-variants.{Value, Short}
 use Rattle.layouts.specs.declared.Refusal.{Refusal}
 use Rattle.layouts.specs.Refusal.{plain}
 use Rattle.pieces.specs.declared.Text as T

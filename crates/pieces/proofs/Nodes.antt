@@ -10,8 +10,8 @@ use Rattle.layouts.specs.Pieces.{Pieces, number, chunk, fault, Num, Text, whole
 use Rattle.layouts.specs.Calls.{peekNumber}
 use Rattle.layouts.proofs.Views.{ChunkView, no-size, is-last, too-large, no-bytes, is-part, chunk-view}
 use Rattle.layouts.proofs.Steps.{frames-short, frames-last, frames-long, frames-cut, frames-part}
-use Rattle.number.specs.declared.Number.{Number}
-use Rattle.number.specs.declared.Number.the-variants.{Value, Short}
+use Rattle.numbers.specs.declared.Number.{Number}
+use Rattle.numbers.specs.declared.Number.the-variants.{Value, Short}
 use Rattle.pieces.specs.declared.Text as T
 use Rattle.pieces.specs.declared.Text.the-variants.{Whole, Half}
 use Rattle.pieces.specs.declared.Chunk as C

@@ -12,9 +12,9 @@ use Rattle.layouts.specs.Primitive.{pick, littleAt, numberAt}
 use Rattle.layouts.specs.Pieces.{Num, value, short, numOf}
 use Rattle.layouts.specs.Calls.{peekNumber}
 use Rattle.layouts.proofs.Little.{little-drop}
-use Rattle.number.specs.Number.{numberOf, fourOf}
-use Rattle.number.specs.declared.Number.{Number}
-use Rattle.number.specs.declared.Number.the-variants.{Value, Short}
+use Rattle.numbers.specs.Number.{numberOf, fourOf}
+use Rattle.numbers.specs.declared.Number.{Number}
+use Rattle.numbers.specs.declared.Number.the-variants.{Value, Short}
 use Rattle.pieces.specs.Pieces.{numRead, wordAt}
 
 -- what is said of an answer, of the case that it is

@@ -7,13 +7,13 @@ use denote.Triple.Clauses.{AtExit}
 use Rattle.layouts.specs.Primitive.{Result, ok, refused}
 use Rattle.layouts.specs.Refusal.{refusal}
 use Rattle.layouts.specs.Pieces.{Num, value, short}
-use Rattle.number.specs.declared.Number.{Number}
-use Rattle.number.specs.declared.Number.the-variants.{Value, Short}
+use Rattle.numbers.specs.declared.Number.{Number}
+use Rattle.numbers.specs.declared.Number.the-variants.{Value, Short}
 use Rattle.pieces.specs.Pieces.{Span, numRead, judgedRead}
 use Rattle.pieces.specs.declared.Text as T
 use Rattle.pieces.specs.declared.Chunk as C
-use Rattle.pieces.specs.declared.Judged.{Judged}
-use Rattle.pieces.specs.declared.Judged.the-variants.{Fine, Refused}
+use Rattle.pieces.specs.declared.Verdict.{Verdict}
+use Rattle.pieces.specs.declared.Verdict.the-variants.{Fine, Refused}
 use Rattle.pieces.proofs.number_at.Reads as number-at
 use Rattle.pieces.proofs.number_at.Kinds as number-at-kinds
 use Rattle.pieces.proofs.four_at.Reads as four-at
@@ -43,11 +43,11 @@ pub number-at-unique : (κs : Lfts 1) (a : Dens κs number-at-kinds.ps) (r r′ 
     → number-at.Post κs a r x → number-at.Post κs a r′ x′ → r ≡ r′
 number-at-unique κs a r r′ x x′ p q = told numRead numberBack num-back r r′ p q
 
-abbrev judgedBack : Result Span → Judged
+abbrev judgedBack : Result Span → Verdict
 judgedBack (ok p) = Fine (p .start) (p .len) (p .ends)
 judgedBack (refused which place stream) = Refused (refusal which place stream)
 
-judged-back : (r : Judged) → judgedBack (judgedRead r) ≡ r
+judged-back : (r : Verdict) → judgedBack (judgedRead r) ≡ r
 judged-back (Fine start len next) = refl
 judged-back (Refused r) = refl
 
@@ -55,7 +55,7 @@ pub four-at-unique : (κs : Lfts 1) (a : Dens κs four-at-kinds.ps) (r r′ : Nu
     → four-at.Post κs a r x → four-at.Post κs a r′ x′ → r ≡ r′
 four-at-unique κs a r r′ x x′ p q = told numRead numberBack num-back r r′ p q
 
-pub string-at-unique : (κs : Lfts 1) (a : Dens κs string-at-kinds.ps) (r r′ : Judged) (x x′ : AtExit (endedOf 1 string-at-kinds.ps string-at-kinds.r) κs)
+pub string-at-unique : (κs : Lfts 1) (a : Dens κs string-at-kinds.ps) (r r′ : Verdict) (x x′ : AtExit (endedOf 1 string-at-kinds.ps string-at-kinds.r) κs)
     → string-at.Post κs a r x → string-at.Post κs a r′ x′ → r ≡ r′
 string-at-unique κs a r r′ x x′ p q = told judgedRead judgedBack judged-back r r′ p q
 

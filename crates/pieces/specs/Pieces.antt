@@ -9,14 +9,14 @@ use Rattle.layouts.specs.Refusal.{refusedBy, plain}
 use Rattle.layouts.specs.Shape.{Role, passed, kept}
 use Rattle.layouts.specs.Pieces.{Num, value, short, Text, whole, cut, bad, Chunk, part, last, wrong, textOf}
 use Rattle.layouts.specs.Judge.{notText, halfTaken}
-use Rattle.number.specs.declared.Number.{Number}
-use Rattle.number.specs.declared.Number.the-variants.{Value, Short}
+use Rattle.numbers.specs.declared.Number.{Number}
+use Rattle.numbers.specs.declared.Number.the-variants.{Value, Short}
 use Rattle.pieces.specs.declared.Text as T
 use Rattle.pieces.specs.declared.Text.the-variants.{Whole, Half, Bad}
 use Rattle.pieces.specs.declared.Chunk as C
 use Rattle.pieces.specs.declared.Chunk.the-variants.{Part, Last, Wrong}
-use Rattle.pieces.specs.declared.Judged.{Judged}
-use Rattle.pieces.specs.declared.Judged.the-variants.{Fine, Refused}
+use Rattle.pieces.specs.declared.Verdict.{Verdict}
+use Rattle.pieces.specs.declared.Verdict.the-variants.{Fine, Refused}
 
 abbrev pub numRead : Number → Num
 numRead (Value n) = value n
@@ -46,7 +46,7 @@ pub record Span : Type 0 where
 abbrev pub span : (start len ends : ℕ) → Span
 span start len ends = record { start = start; len = len; ends = ends }
 
-abbrev pub judgedRead : Judged → Result Span
+abbrev pub judgedRead : Verdict → Result Span
 judgedRead (Fine start len next) = ok (span start len next)
 judgedRead (Refused r) = refusedBy r
 

@@ -9,7 +9,7 @@ ghost use Rattle.layouts.specs.Judge.{notText};
 ghost use Rattle.layouts.specs.Calls.{peekNumber};
 ghost use Rattle.pieces.specs.Pieces.{numRead, wordAt, textFound, chunkFound, judgedRead, roleOf, stringAt};
 use layouts::Refusal;
-use number::Number;
+use numbers::Number;
 
 pub const MAX_WIRE_STRING_LEN: u64 = 268435456;
 
@@ -28,7 +28,7 @@ pub enum Text {
 }
 
 // A string that was judged: fine, by start and length of its contents and the place after it.
-pub enum Judged {
+pub enum Verdict {
     Fine {
         start: usize,
         len: usize,
@@ -53,14 +53,14 @@ pub fn number_at(s: &[u8], at: usize) -> Number
     if s.len() < at {
         return Number::Short;
     }
-    number::read(&s[at..])
+    numbers::read(&s[at..])
 }
 
 pub fn four_at(s: &[u8], at: usize) -> Number
     ensures { λ r. ⌜ numRead r ≡ wordAt 4 (now (s .entry)) at ⌝ }
 {
     if at <= s.len() {
-        return number::read_four(&s[at..]);
+        return numbers::read_four(&s[at..]);
     }
     Number::Short
 }
@@ -136,22 +136,22 @@ fn is_fine(s: &[u8], start: usize, len: usize, decoded: bool) -> bool
 }
 
 // A string with its text judged where it is decoded: before the padding, after the contents.
-pub fn string_at(s: &[u8], at: usize, decoded: bool) -> Judged
+pub fn string_at(s: &[u8], at: usize, decoded: bool) -> Verdict
     ensures { λ r. ⌜ judgedRead r ≡ stringAt (now (s .entry)) decoded at ⌝ }
 {
     match text_at(s, at) {
         Text::Whole { start, len, next } => {
             if is_fine(s, start, len, decoded) {
-                return Judged::Fine { start, len, next };
+                return Verdict::Fine { start, len, next };
             }
-            Judged::Refused(layouts::refuse(layouts::BAD_TEXT, start))
+            Verdict::Refused(layouts::refuse(layouts::BAD_TEXT, start))
         }
         Text::Half { start, len } => {
             if is_fine(s, start, len, decoded) {
-                return Judged::Refused(layouts::refuse(layouts::CUT_SHORT, start + len));
+                return Verdict::Refused(layouts::refuse(layouts::CUT_SHORT, start + len));
             }
-            Judged::Refused(layouts::refuse(layouts::BAD_TEXT, start))
+            Verdict::Refused(layouts::refuse(layouts::BAD_TEXT, start))
         }
-        Text::Bad(r) => Judged::Refused(r),
+        Text::Bad(r) => Verdict::Refused(r),
     }
 }

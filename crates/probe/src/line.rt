@@ -1,6 +1,6 @@
 // One line for each answer, put together in a buffer. Each function takes how much of the buffer is in use and answers how much is in use after it.
-use by_number::lent;
-use by_number::told;
+use probe_by_number::lent;
+use probe_by_number::told;
 
 const READ_FRAMED: u64 = 16;
 
@@ -48,10 +48,10 @@ fn shown(call: u64, i: usize) -> usize {
     if (call == READ_FRAMED) & (i == told::FIRST_NUMBER) {
         return told::OUTPUT;
     }
-    if (call == by_number::ENTRY_VIEW) & (i == told::FIRST_NUMBER) {
+    if (call == probe_by_number::ENTRY_VIEW) & (i == told::FIRST_NUMBER) {
         return told::REFUSAL;
     }
-    if (call == by_number::ENTRY_VIEW) & (i == told::OWN_START) {
+    if (call == probe_by_number::ENTRY_VIEW) & (i == told::OWN_START) {
         return told::PLACE;
     }
     if told::is_own(call) & ((i == told::OWN_START) | (i == told::OWN_LENGTH)) {

@@ -1,11 +1,11 @@
-// Answers requests about the library: reads them from standard input until its end and writes one line for each. docs/DECISIONS.md, "The probe", has the form
+// Answers requests about the library: reads them from standard input until its end and writes one line for each. crates/probe/README.md has the form
 // of requests and lines. A request that is cut short or beyond the limits, which are the lengths of the buffers here, ends the program with the line `stopped`.
 mod line;
 mod request;
 
-use by_number::Call;
-use by_number::lent;
-use by_number::told;
+use probe_by_number::Call;
+use probe_by_number::lent;
+use probe_by_number::told;
 use request::Asked;
 
 const MIB: usize = 1048576;
@@ -20,7 +20,7 @@ const LINE: usize = 65536;
 
 // What stands behind `e=`: of an entry view nothing, since it is shown as the payload.
 fn strings<'a>(call: u64, entries: &'a [u8], block: &'a [u8]) -> &'a [u8] {
-    if call == by_number::ENTRY_VIEW {
+    if call == probe_by_number::ENTRY_VIEW {
         return lent::part(entries, 0, 0);
     }
     told::strings(call, entries, block)
@@ -28,7 +28,7 @@ fn strings<'a>(call: u64, entries: &'a [u8], block: &'a [u8]) -> &'a [u8] {
 
 // What stands behind `p=`: the view, or what was written into the room.
 fn payload<'a, 'b>(call: u64, a: &'a [u8], room: &'a [u8], block: &'b [u8]) -> &'a [u8] {
-    if call == by_number::ENTRY_VIEW {
+    if call == probe_by_number::ENTRY_VIEW {
         return lent::part(
             a,
             told::number(block, told::OWN_START) as usize,
@@ -48,10 +48,10 @@ fn put_line<'a, 'b>(
     room: &'a [u8],
     block: &'a [u8],
 ) -> usize {
-    if refusal == by_number::NO_CALL {
+    if refusal == probe_by_number::NO_CALL {
         return line::put_no_call(text);
     }
-    if (refusal != 0) & (call != by_number::ENTRY_VIEW) {
+    if (refusal != 0) & (call != probe_by_number::ENTRY_VIEW) {
         let is_kept = lent::is_kept(entries, 0) & lent::is_kept(room, 0);
         return line::put_refusal(text, block, is_kept);
     }
@@ -77,7 +77,7 @@ fn answer(
 ) {
     lent::fill(entries);
     lent::fill(room);
-    let refusal = by_number::answer(c, a, b, entries, room, block);
+    let refusal = probe_by_number::answer(c, a, b, entries, room, block);
     let n = put_line(text, c.number, refusal, a, entries, room, block);
     line::end(text, n);
 }

@@ -1,6 +1,6 @@
 // A request: eight-byte numbers call, operation, major, minor, slots, room, length of a; a; length of b; b.
-use by_number::Call;
-use by_number::lent;
+use probe_by_number::Call;
+use probe_by_number::lent;
 
 const HEAD: usize = 56;
 

@@ -22,14 +22,14 @@ use Rattle.layouts.proofs.Judge.{judge-read, record-room, entries-length, paylo
 use Rattle.layouts.proofs.Placed.{run-placed}
 use Rattle.layouts.proofs.Soft.{soft-run}
 use Rattle.layouts.proofs.Calls.{answer-of, meaningOf, soft-skip-reply, soft-read-reply, soft-rest-reply}
-use Rattle.judge.specs.declared.Answer as C
-use Rattle.skip.specs.declared.Skipped.{Skipped}
-use Rattle.skip.specs.declared.Skipped.the-variants as S
-use Rattle.judge.specs.declared.Outcome.the-variants.{Fine, Refused}
-use Rattle.judge.specs.Judged.{answerAs}
-use Rattle.skip.specs.Skipped.{skipped}
-use Rattle.judge.proofs.Answers.{answer-fine, refused-keeps, fine-reports, beyond}
-use Rattle.skip.proofs.Unique.{skipped-told}
+use Rattle.walk_judge.specs.declared.Answer as C
+use Rattle.walk_strings.specs.declared.Passed.{Passed}
+use Rattle.walk_strings.specs.declared.Passed.the-variants as S
+use Rattle.walk_judge.specs.declared.Outcome.the-variants.{Fine, Refused}
+use Rattle.walk_judge.specs.Judged.{answerAs}
+use Rattle.walk_pass.specs.Skip.{skipped}
+use Rattle.walk_judge.proofs.Answers.{answer-fine, refused-keeps, fine-reports, beyond}
+use Rattle.walk_pass.proofs.Unique.{skipped-told}
 use Rattle.protocol.proofs.read_op_args.Reads as read-op-args
 use Rattle.protocol.proofs.read_op_args.Kinds as read-op-args-kinds
 use Rattle.protocol.proofs.read_daemon_result.Reads as read-daemon-result
@@ -114,7 +114,7 @@ same-as : {A : Type 0} (f : ℕ → Version → A) {op major minor op' major' mi
 same-as f {op} {major} {minor} {op'} {major'} {minor'} e =
     ap (λ (n : ℕ). f n (version major' minor')) (e .0) ∙ ap (λ (n : ℕ). f op (version n minor')) (e .1) ∙ ap (λ (n : ℕ). f op (version major n)) (e .2)
 
-module _ (κs : Lfts 1) (a : Dens κs skip-daemon-result-kinds.ps) (x : AtExit (endedOf 1 skip-daemon-result-kinds.ps skip-daemon-result-kinds.r) κs) (k : Skipped)
+module _ (κs : Lfts 1) (a : Dens κs skip-daemon-result-kinds.ps) (x : AtExit (endedOf 1 skip-daemon-result-kinds.ps skip-daemon-result-kinds.r) κs) (k : Passed)
     (p : skip-daemon-result.Post κs a k x) where
   abbrev sentOp : ℕ
   sentOp = a .0
@@ -129,7 +129,7 @@ module _ (κs : Lfts 1) (a : Dens κs skip-daemon-result-kinds.ps) (x : AtExit (
   sentPieces = run (replyTree sentOp sentVersion) sent 0
 
   -- skipping s' ends where skipping s does, and is refused where it is
-  pub soft-skipped : (κs′ : Lfts 1) (a′ : Dens κs′ skip-daemon-result-kinds.ps) (x′ : AtExit (endedOf 1 skip-daemon-result-kinds.ps skip-daemon-result-kinds.r) κs′) (k′ : Skipped)
+  pub soft-skipped : (κs′ : Lfts 1) (a′ : Dens κs′ skip-daemon-result-kinds.ps) (x′ : AtExit (endedOf 1 skip-daemon-result-kinds.ps skip-daemon-result-kinds.r) κs′) (k′ : Passed)
       → skip-daemon-result.Post κs′ a′ k′ x′ → Same (a .0) (a .1 .0) (a .1 .1 .0) (a′ .0) (a′ .1 .0) (a′ .1 .1 .0) → Softened sentPieces sent (now (a′ .1 .1 .1 .0)) → k′ ≡ k
   soft-skipped κs′ a′ x′ k′ q e soft =
       let s' = now (a′ .1 .1 .1 .0) in

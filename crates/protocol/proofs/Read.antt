@@ -16,18 +16,19 @@ use Rattle.layouts.proofs.Judge.{judge-read, entries-length, payload-length}
 use Rattle.layouts.proofs.Placed.{run-placed}
 use Rattle.layouts.proofs.Calls.{answer-of}
 use Rattle.table.specs.Table.{groupsAt, kindNumbered, rowFor}
-use Rattle.operations.specs.declared.Shape.{Shape}
-use Rattle.operations.specs.declared.Shape.the-variants.{Unknown, At}
-use Rattle.operations.specs.Rows.{argumentsOf, replyOf}
-use Rattle.operations.proofs.Shapes.{arguments-say, reply-says, shape-refuses}
-use Rattle.output.specs.Numbers.{bytesOf}
-use Rattle.judge.specs.declared.Answer as C
-use Rattle.judge.specs.Judged.{answerAs}
-use Rattle.rooms.specs.Rooms.{slotsIn, filledAfter}
-use Rattle.rooms.proofs.Laws.{fitting, with-words, with-bytes}
-use Rattle.reading.proofs.Filled.{answered-by}
-use Rattle.shapes.specs.Shapes.{shapePieces, shapeRead}
-use Rattle.shapes.proofs.Shapes.{ShapeRead}
+use Rattle.table_operations.specs.declared.Shape.{Shape}
+use Rattle.table_operations.specs.declared.Shape.the-variants.{Unknown, At}
+use Rattle.table_operations.specs.Rows.{argumentsOf, replyOf}
+use Rattle.table_operations.proofs.Shapes.{arguments-say, reply-says, shape-refuses}
+use Rattle.writers_output.specs.Numbers.{bytesOf}
+use Rattle.walk_judge.specs.declared.Answer as C
+use Rattle.walk_judge.specs.Judged.{answerAs}
+use Rattle.walk_rooms.specs.Rooms.{filledAfter}
+use Rattle.entries.specs.Entries.{slotsIn}
+use Rattle.walk_rooms.proofs.Laws.{fitting, with-words, with-bytes}
+use Rattle.walk_read.proofs.Filled.{answered-by}
+use Rattle.walk_shapes.specs.Shapes.{shapePieces, shapeRead}
+use Rattle.walk_shapes.proofs.Shapes.{ShapeRead}
 
 module _ (v : Version) (k : Kinds) (s : List ℕ) (t : Tree) (x : Shape) (known : (i c : ℕ) → x ≡ At i c → (t ≡ layout v (groupsAt i)) × ((b : Bool) → kindOf v b k ≡ kindNumbered v b c))
     (unknown : x ≡ Unknown → t ≡ fail 9 0) where

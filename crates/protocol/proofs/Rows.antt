@@ -1,6 +1,6 @@
 -- The calls by operation: what the row of the table says is what `layouts` says, and an unknown number is refused.
 use Prim.Native.Nat.{ℕ}
-use mathlib.Core.Path.{_≡_, sym, _∙_, ap}
+use mathlib.Core.Path.{_≡_, refl, sym, _∙_, ap}
 use mathlib.Core.List.{List, []}
 use mathlib.Core.Bool.{Bool, false}
 use lib.ListN.{getD, replicate}
@@ -13,19 +13,19 @@ use Rattle.layouts.specs.Record.{blank}
 use Rattle.layouts.specs.Judge.{Ended, judgeOf, entriesOf}
 use Rattle.layouts.specs.Operations.{Kinds, kindOf}
 use Rattle.layouts.specs.Calls.{Answer, peekNumber, readOf}
-use Rattle.number.specs.declared.Number.{Number}
-use Rattle.number.specs.declared.Number.the-variants.{Value, Short}
+use Rattle.numbers.specs.declared.Number.{Number}
+use Rattle.numbers.specs.declared.Number.the-variants.{Value, Short}
 use Rattle.pieces.specs.Pieces.{numRead}
 use Rattle.pieces.proofs.Nodes.{ask-cut, ask-found}
 use Rattle.table.specs.Table.{groupsAt, kindNumbered}
-use Rattle.items.specs.Items.{versionOf, firstOf, layoutTree, piecesOf}
-use Rattle.judge.specs.declared.Outcome.the-variants.{Fine}
-use Rattle.judge.specs.declared.Said.{Said}
-use Rattle.judge.specs.declared.Said.the-variants as S
-use Rattle.judge.specs.Judged.{answerOf, answerAs, endedAs, windowAfter}
+use Rattle.walk_items.specs.Items.{versionOf, firstOf, layoutTree, piecesOf}
+use Rattle.walk_judge.specs.declared.Outcome.the-variants.{Fine}
+use Rattle.walk_judge.specs.declared.Said.{Said}
+use Rattle.walk_judge.specs.declared.Said.the-variants as S
+use Rattle.walk_judge.specs.Judged.{answerOf, answerAs, endedAs, windowAfter}
 use Rattle.protocol.specs.declared.Arguments.{Arguments}
-use Rattle.reading.specs.Reading.{readBy, answeredAs}
-use Rattle.reading.proofs.Filled.{answered-by, refused-is, fine-is, first-in}
+use Rattle.walk_read.specs.Reading.{readBy, answeredAs}
+use Rattle.walk_read.proofs.Filled.{answered-by, refused-is, fine-is, first-in}
 use Rattle.protocol.specs.Protocol.{argumentsAs}
 
 module _ (v : Version) (k : Kinds) (slots room : ℕ) (s : List ℕ) (t : Tree) where
@@ -63,13 +63,13 @@ module _ (l c : ℕ) (s : List ℕ) where
 
   module _ (a : Said) (ns cs : List ℕ) (j : answerOf a ns cs ≡ answerAs (endedAs (readBy l s 1 0))) where
     pub skipped-refused : (r : Refusal) (y : Arguments) → a ≡ S.Refused r → y ≡ argumentsAs (refusedBy r) [] → y ≡ skippedBy
-    skipped-refused r y q e = e ∙ ap (λ (o : Result Ended). argumentsAs (answeredAs (versionOf l) c o) (entriesOf (piecesOf l s 0))) (sym (refused-is l s 1 0 c a ns cs j r q))
+    skipped-refused r y q e = e ∙ ap (λ (o : Result Ended). argumentsAs (answeredAs (versionOf l) c o) (entriesOf (piecesOf l s 0))) (sym (refused-is l s 1 0 c 1 refl a ns cs j r q))
 
     pub skipped-fine : (kind ends ends2 n p : ℕ) (b : Bool) → a ≡ S.Fine kind ends ends2 n p b → (w : List ℕ) → w ≡ windowAfter a (replicate 16 0) 0 (entriesOf (piecesOf l s 0)) → (k : ℕ) → k ≡ kindNumbered (versionOf l) b c
         → record { outcome = Fine; kind = k; ends = ends; count = getD ns 0 0; start = getD w 0 0; len = getD w 1 0 } ≡ skippedBy
     skipped-fine kind ends ends2 n p b q w e k g =
         let f = first-in (entriesOf (piecesOf l s 0)) w (e ∙ ap (λ (y : Said). windowAfter y (replicate 16 0) 0 (entriesOf (piecesOf l s 0))) q) in
-        rw (f .0, f .1, g) (ap (λ (o : Result Ended). argumentsAs (answeredAs (versionOf l) c o) (entriesOf (piecesOf l s 0))) (sym (fine-is l s 1 0 c a ns cs j kind ends ends2 n p b q)))
+        rw (f .0, f .1, g) (ap (λ (o : Result Ended). argumentsAs (answeredAs (versionOf l) c o) (entriesOf (piecesOf l s 0))) (sym (fine-is l s 1 0 c 1 refl a ns cs j kind ends ends2 n p b q)))
 
   -- a layout without fields
   pub skipped-nothing : layoutTree l ≡ stop → (k : ℕ) → k ≡ kindNumbered (versionOf l) false c → record { outcome = Fine; kind = k; ends = 0; count = 0; start = 0; len = 0 } ≡ skippedBy

@@ -4,11 +4,11 @@ use contract.Lifetimes.{Lfts}
 use borrow.Fn.Kinds.{Dens, endedOf}
 use denote.Triple.Clauses.{AtExit}
 use denote.Ref.{now}
-use Rattle.judge.specs.declared.Answer.{Answer}
-use Rattle.judge.specs.declared.Said.{Said}
-use Rattle.judge.proofs.Unique.{said-told}
-use Rattle.skip.specs.declared.Skipped.{Skipped}
-use Rattle.skip.proofs.Unique.{skipped-told}
+use Rattle.walk_judge.specs.declared.Answer.{Answer}
+use Rattle.walk_judge.specs.declared.Said.{Said}
+use Rattle.walk_judge.proofs.Unique.{said-told}
+use Rattle.walk_strings.specs.declared.Passed.{Passed}
+use Rattle.walk_pass.proofs.Unique.{skipped-told}
 use Rattle.protocol.specs.declared.Arguments.{Arguments}
 use Rattle.protocol.proofs.read_op_args.Reads as read-op-args
 use Rattle.protocol.proofs.read_op_args.Kinds as read-op-args-kinds
@@ -35,7 +35,7 @@ pub read-daemon-result-unique : (κs : Lfts 3) (a : Dens κs read-daemon-result-
     → read-daemon-result.Post κs a r x → read-daemon-result.Post κs a r′ x′ → (r ≡ r′) × (now (x .1 .1 .1 .1 .0) ≡ now (x′ .1 .1 .1 .1 .0)) × (now (x .1 .1 .1 .1 .1 .0) ≡ now (x′ .1 .1 .1 .1 .1 .0))
 read-daemon-result-unique κs a r r′ x x′ p q = (p .0 ∙ sym (q .0), p .1 .0 ∙ sym (q .1 .0), p .1 .1 ∙ sym (q .1 .1))
 
-pub skip-daemon-result-unique : (κs : Lfts 1) (a : Dens κs skip-daemon-result-kinds.ps) (r r′ : Skipped) (x x′ : AtExit (endedOf 1 skip-daemon-result-kinds.ps skip-daemon-result-kinds.r) κs)
+pub skip-daemon-result-unique : (κs : Lfts 1) (a : Dens κs skip-daemon-result-kinds.ps) (r r′ : Passed) (x x′ : AtExit (endedOf 1 skip-daemon-result-kinds.ps skip-daemon-result-kinds.r) κs)
     → skip-daemon-result.Post κs a r x → skip-daemon-result.Post κs a r′ x′ → r ≡ r′
 skip-daemon-result-unique κs a r r′ x x′ p q = skipped-told r r′ (p ∙ sym q)
 

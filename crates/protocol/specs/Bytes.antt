@@ -1,19 +1,22 @@
--- A read with the room of two lent slices of bytes: sixteen make a slot.
+-- A read: the answer, and two lent slices of bytes afterwards. Sixteen make a slot.
 use Prim.Native.Nat.{ℕ, _/_}
 use mathlib.Core.List.{List}
 use lib.ListN.{length}
-use Rattle.layouts.specs.Primitive.{Version, Result}
-use Rattle.layouts.specs.Pieces.{Pieces}
-use Rattle.layouts.specs.Judge.{entriesOf, lentAfter}
-use Rattle.layouts.specs.Calls.{Answer, readOpArgs, readDaemonResult}
-use Rattle.output.specs.Numbers.{bytesOf}
+use Rattle.layouts.specs.Primitive.{Version}
+use Rattle.layouts.specs.Pieces.{run}
+use Rattle.layouts.specs.Judge.{entriesOf, payloadOf}
+use Rattle.layouts.specs.Calls.{argumentsTree, replyTree, readOpArgs, readDaemonResult}
+use Rattle.writers_output.specs.Numbers.{bytesOf}
+use Rattle.walk_judge.specs.declared.Answer as C
+use Rattle.walk_judge.specs.Judged.{answerAs}
+use Rattle.walk_rooms.specs.Rooms.{LentRead, lentRead}
 
-abbrev pub argumentsRead : (op : ℕ) → Version → (s entries payload : List ℕ) → Result Answer
-argumentsRead op v s entries payload = readOpArgs op v s (length entries / 16) (length payload)
+abbrev pub argumentsRead : (op : ℕ) → Version → (s entries payload : List ℕ) → LentRead C.Answer
+argumentsRead op v s entries payload =
+    lentRead answerAs (readOpArgs op v s (length entries / 16) (length payload))
+    (bytesOf (entriesOf (run (argumentsTree op v) s 0))) (payloadOf s (run (argumentsTree op v) s 0)) entries payload
 
-abbrev pub replyRead : (op : ℕ) → Version → (s entries payload : List ℕ) → Result Answer
-replyRead op v s entries payload = readDaemonResult op v s (length entries / 16) (length payload)
-
--- lent bytes after a read of these pieces
-abbrev pub bytesAfter : {A : Type 0} → Result A → Pieces → (lent : List ℕ) → List ℕ
-bytesAfter o p lent = lentAfter o (bytesOf (entriesOf p)) lent
+abbrev pub replyRead : (op : ℕ) → Version → (s entries payload : List ℕ) → LentRead C.Answer
+replyRead op v s entries payload =
+    lentRead answerAs (readDaemonResult op v s (length entries / 16) (length payload))
+    (bytesOf (entriesOf (run (replyTree op v) s 0))) (payloadOf s (run (replyTree op v) s 0)) entries payload

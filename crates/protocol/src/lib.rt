@@ -2,27 +2,26 @@
 // ended.
 ghost use mathlib.Core.Path.{_≡_};
 ghost use mathlib.Core.List.{[]};
-ghost use lib.ListN.{length};
 ghost use Rattle.layouts.specs.Primitive.{version};
 ghost use Rattle.layouts.specs.Refusal.{refusedBy};
 ghost use Rattle.layouts.specs.Pieces.{run, skipOf};
 ghost use Rattle.layouts.specs.Judge.{entriesOf};
-ghost use Rattle.layouts.specs.Calls.{argumentsTree, skippedTree, replyTree, skipOpArgs, skipDaemonResult, entriesAfter, payloadAfter};
-ghost use Rattle.items.specs.Items.{versionOf, piecesOf};
-ghost use Rattle.judge.specs.Judged.{answerOf, answerAs};
-ghost use Rattle.reading.specs.Reading.{readBy, answeredAs};
-ghost use Rattle.skip.specs.Skipped.{skipped};
+ghost use Rattle.layouts.specs.Calls.{skippedTree, skipOpArgs, skipDaemonResult};
+ghost use Rattle.walk_items.specs.Items.{versionOf, piecesOf};
+ghost use Rattle.walk_judge.specs.Judged.{answerOf};
+ghost use Rattle.walk_read.specs.Reading.{readBy, answeredAs};
+ghost use Rattle.walk_pass.specs.Skip.{skipped};
 ghost use Rattle.protocol.specs.Protocol.{argumentsRead, replyRead, argumentsAs};
 ghost use Rattle.protocol.specs.Bytes as B;
-use items::Brief;
-use items::Layout;
-use judge::Answer;
-use judge::Outcome;
-use judge::Said;
 use layouts::Refusal;
-use number::Number;
-use operations::Shape;
-use skip::Skipped;
+use numbers::Number;
+use table_operations::Shape;
+use walk_items::Brief;
+use walk_items::Layout;
+use walk_judge::Answer;
+use walk_judge::Outcome;
+use walk_judge::Said;
+use walk_strings::Passed;
 
 // What skipped arguments answer: a kind, where they end, a count ("N paths", "N overrides") or one string, by start and length of its contents.
 pub struct Arguments {
@@ -42,14 +41,14 @@ pub fn read_op_args(
     entries: &mut [u64],
     payload: &mut [u8],
 ) -> Answer
-    ensures answer { λ r. ⌜ r ≡ answerAs (argumentsRead op (version major minor) (now (s .entry)) (now (entries .entry)) (now (payload .entry))) ⌝ }
-    ensures entries { λ r. ⌜ now (entries .exit) ≡ entriesAfter (argumentsRead op (version major minor) (now (s .entry)) (now (entries .entry)) (now (payload .entry))) (run (argumentsTree op (version major minor)) (now (s .entry)) 0) (now (entries .entry)) ⌝ }
-    ensures payload { λ r. ⌜ now (payload .exit) ≡ payloadAfter (argumentsRead op (version major minor) (now (s .entry)) (now (entries .entry)) (now (payload .entry))) (now (s .entry)) (run (argumentsTree op (version major minor)) (now (s .entry)) 0) (now (payload .entry)) ⌝ }
+    ensures answer { λ r. ⌜ r ≡ argumentsRead op (version major minor) (now (s .entry)) (now (entries .entry)) (now (payload .entry)) .answer ⌝ }
+    ensures entries { λ r. ⌜ now (entries .exit) ≡ argumentsRead op (version major minor) (now (s .entry)) (now (entries .entry)) (now (payload .entry)) .entries ⌝ }
+    ensures payload { λ r. ⌜ now (payload .exit) ≡ argumentsRead op (version major minor) (now (s .entry)) (now (entries .entry)) (now (payload .entry)) .payload ⌝ }
 {
     let mut none: [u8; 0] = [];
     let mut numbers = [0u64; 12];
     let mut counts = [0u64; 3];
-    let said = shapes::read_arguments(
+    let said = walk_shapes::read_arguments(
         op,
         major,
         minor,
@@ -60,7 +59,7 @@ pub fn read_op_args(
         &mut numbers,
         &mut counts,
     );
-    judge::answer_of(said, numbers, counts)
+    walk_judge::answer_of(said, numbers, counts)
 }
 
 // The same with entries of sixteen bytes, and with the numbers and counts beside what is said.
@@ -74,12 +73,12 @@ pub fn read_op_args_bytes(
     numbers: &mut [u64; 12],
     counts: &mut [u64; 3],
 ) -> Said
-    ensures answer { λ r. ⌜ answerOf r (now (numbers .exit)) (now (counts .exit)) ≡ answerAs (B.argumentsRead op (version major minor) (now (s .entry)) (now (entries .entry)) (now (payload .entry))) ⌝ }
-    ensures entries { λ r. ⌜ now (entries .exit) ≡ B.bytesAfter (B.argumentsRead op (version major minor) (now (s .entry)) (now (entries .entry)) (now (payload .entry))) (run (argumentsTree op (version major minor)) (now (s .entry)) 0) (now (entries .entry)) ⌝ }
-    ensures payload { λ r. ⌜ now (payload .exit) ≡ payloadAfter (B.argumentsRead op (version major minor) (now (s .entry)) (now (entries .entry)) (now (payload .entry))) (now (s .entry)) (run (argumentsTree op (version major minor)) (now (s .entry)) 0) (now (payload .entry)) ⌝ }
+    ensures answer { λ r. ⌜ answerOf r (now (numbers .exit)) (now (counts .exit)) ≡ B.argumentsRead op (version major minor) (now (s .entry)) (now (entries .entry)) (now (payload .entry)) .answer ⌝ }
+    ensures entries { λ r. ⌜ now (entries .exit) ≡ B.argumentsRead op (version major minor) (now (s .entry)) (now (entries .entry)) (now (payload .entry)) .entries ⌝ }
+    ensures payload { λ r. ⌜ now (payload .exit) ≡ B.argumentsRead op (version major minor) (now (s .entry)) (now (entries .entry)) (now (payload .entry)) .payload ⌝ }
 {
     let mut none: [u64; 0] = [];
-    shapes::read_arguments(
+    walk_shapes::read_arguments(
         op,
         major,
         minor,
@@ -112,7 +111,7 @@ fn skip_layout(s: &[u8], layout: Layout, code: u8) -> Arguments
     let mut numbers = [0u64; 12];
     let mut counts = [0u64; 3];
     let mut window = [0u64; 16];
-    let a = judge::judge(
+    let a = walk_judge::judge(
         s,
         0,
         layout,
@@ -136,7 +135,7 @@ fn skip_layout(s: &[u8], layout: Layout, code: u8) -> Arguments
             present,
         } => Arguments {
             outcome: Outcome::Fine,
-            kind: kinds::kind_of(code, items::spoken(layout), present),
+            kind: table_operations::kind_of(code, walk_items::spoken(layout), present),
             ends,
             count: numbers[0],
             start: window[0],
@@ -149,16 +148,16 @@ fn skip_layout(s: &[u8], layout: Layout, code: u8) -> Arguments
 pub fn skip_op_args(op: u64, major: u16, minor: u8, s: &[u8]) -> Arguments
     ensures { λ r. ⌜ r ≡ argumentsAs (skipOpArgs op (version major minor) (now (s .entry))) (entriesOf (run (skippedTree op (version major minor)) (now (s .entry)) 0)) ⌝ }
 {
-    let f = operations::skipped(op);
+    let f = table_operations::skipped(op);
     match f {
         Shape::Unknown => refused_arguments(layouts::refuse(layouts::UNKNOWN_OPERATION, 0)),
         Shape::At { first, kind } => {
-            let layout = items::layout(major, minor, first);
-            let b = items::in_brief(layout);
+            let layout = walk_items::layout(major, minor, first);
+            let b = walk_items::in_brief(layout);
             match b {
                 Brief::Nothing => Arguments {
                     outcome: Outcome::Fine,
-                    kind: kinds::kind_of(kind, items::spoken(layout), false),
+                    kind: table_operations::kind_of(kind, walk_items::spoken(layout), false),
                     ends: 0,
                     count: 0,
                     start: 0,
@@ -179,14 +178,14 @@ pub fn read_daemon_result(
     entries: &mut [u64],
     payload: &mut [u8],
 ) -> Answer
-    ensures answer { λ r. ⌜ r ≡ answerAs (replyRead op (version major minor) (now (s .entry)) (now (entries .entry)) (now (payload .entry))) ⌝ }
-    ensures entries { λ r. ⌜ now (entries .exit) ≡ entriesAfter (replyRead op (version major minor) (now (s .entry)) (now (entries .entry)) (now (payload .entry))) (run (replyTree op (version major minor)) (now (s .entry)) 0) (now (entries .entry)) ⌝ }
-    ensures payload { λ r. ⌜ now (payload .exit) ≡ payloadAfter (replyRead op (version major minor) (now (s .entry)) (now (entries .entry)) (now (payload .entry))) (now (s .entry)) (run (replyTree op (version major minor)) (now (s .entry)) 0) (now (payload .entry)) ⌝ }
+    ensures answer { λ r. ⌜ r ≡ replyRead op (version major minor) (now (s .entry)) (now (entries .entry)) (now (payload .entry)) .answer ⌝ }
+    ensures entries { λ r. ⌜ now (entries .exit) ≡ replyRead op (version major minor) (now (s .entry)) (now (entries .entry)) (now (payload .entry)) .entries ⌝ }
+    ensures payload { λ r. ⌜ now (payload .exit) ≡ replyRead op (version major minor) (now (s .entry)) (now (entries .entry)) (now (payload .entry)) .payload ⌝ }
 {
     let mut none: [u8; 0] = [];
     let mut numbers = [0u64; 12];
     let mut counts = [0u64; 3];
-    let said = shapes::read_reply(
+    let said = walk_shapes::read_reply(
         op,
         major,
         minor,
@@ -197,7 +196,7 @@ pub fn read_daemon_result(
         &mut numbers,
         &mut counts,
     );
-    judge::answer_of(said, numbers, counts)
+    walk_judge::answer_of(said, numbers, counts)
 }
 
 // The same with entries of sixteen bytes, and with the numbers and counts beside what is said.
@@ -211,12 +210,12 @@ pub fn read_daemon_result_bytes(
     numbers: &mut [u64; 12],
     counts: &mut [u64; 3],
 ) -> Said
-    ensures answer { λ r. ⌜ answerOf r (now (numbers .exit)) (now (counts .exit)) ≡ answerAs (B.replyRead op (version major minor) (now (s .entry)) (now (entries .entry)) (now (payload .entry))) ⌝ }
-    ensures entries { λ r. ⌜ now (entries .exit) ≡ B.bytesAfter (B.replyRead op (version major minor) (now (s .entry)) (now (entries .entry)) (now (payload .entry))) (run (replyTree op (version major minor)) (now (s .entry)) 0) (now (entries .entry)) ⌝ }
-    ensures payload { λ r. ⌜ now (payload .exit) ≡ payloadAfter (B.replyRead op (version major minor) (now (s .entry)) (now (entries .entry)) (now (payload .entry))) (now (s .entry)) (run (replyTree op (version major minor)) (now (s .entry)) 0) (now (payload .entry)) ⌝ }
+    ensures answer { λ r. ⌜ answerOf r (now (numbers .exit)) (now (counts .exit)) ≡ B.replyRead op (version major minor) (now (s .entry)) (now (entries .entry)) (now (payload .entry)) .answer ⌝ }
+    ensures entries { λ r. ⌜ now (entries .exit) ≡ B.replyRead op (version major minor) (now (s .entry)) (now (entries .entry)) (now (payload .entry)) .entries ⌝ }
+    ensures payload { λ r. ⌜ now (payload .exit) ≡ B.replyRead op (version major minor) (now (s .entry)) (now (entries .entry)) (now (payload .entry)) .payload ⌝ }
 {
     let mut none: [u64; 0] = [];
-    shapes::read_reply(
+    walk_shapes::read_reply(
         op,
         major,
         minor,
@@ -230,30 +229,30 @@ pub fn read_daemon_result_bytes(
 }
 
 // The layout at the start of the stream; one without fields, or of one number, needs no fold.
-fn skip_brief(s: &[u8], layout: Layout) -> Skipped
+fn skip_brief(s: &[u8], layout: Layout) -> Passed
     ensures { λ r. ⌜ skipped r ≡ skipOf (piecesOf layout (now (s .entry)) 0) ⌝ }
 {
-    let b = items::in_brief(layout);
+    let b = walk_items::in_brief(layout);
     match b {
-        Brief::Nothing => Skipped::Past(0),
+        Brief::Nothing => Passed::Past(0),
         Brief::Number => {
             let m = pieces::number_at(s, 0);
             match m {
-                Number::Short => Skipped::Refused(layouts::refuse(layouts::CUT_SHORT, 0)),
-                Number::Value(_) => Skipped::Past(8),
+                Number::Short => Passed::Refused(layouts::refuse(layouts::CUT_SHORT, 0)),
+                Number::Value(_) => Passed::Past(8),
             }
         }
-        Brief::Longer => skip::skip(s, 0, layout),
+        Brief::Longer => walk_pass::skip(s, 0, layout),
     }
 }
 
 // No contents are looked at.
-pub fn skip_daemon_result(op: u64, major: u16, minor: u8, s: &[u8]) -> Skipped
+pub fn skip_daemon_result(op: u64, major: u16, minor: u8, s: &[u8]) -> Passed
     ensures { λ r. ⌜ skipped r ≡ skipDaemonResult op (version major minor) (now (s .entry)) ⌝ }
 {
-    let f = operations::reply(op);
+    let f = table_operations::reply(op);
     match f {
-        Shape::Unknown => Skipped::Refused(layouts::refuse(layouts::UNKNOWN_OPERATION, 0)),
-        Shape::At { first, kind: _ } => skip_brief(s, items::layout(major, minor, first)),
+        Shape::Unknown => Passed::Refused(layouts::refuse(layouts::UNKNOWN_OPERATION, 0)),
+        Shape::At { first, kind: _ } => skip_brief(s, walk_items::layout(major, minor, first)),
     }
 }

@@ -22,16 +22,17 @@ use Rattle.layouts.proofs.Judge.{judge-read, entries-length}
 use Rattle.layouts.proofs.Placed.{never-both}
 use Rattle.table.specs.Packed as P
 use Rattle.table.specs.Claims.{others}
-use Rattle.items.specs.Items.{versionOf, firstOf, piecesOf}
-use Rattle.items.proofs.Trees.{pieces-of}
-use Rattle.judge.specs.declared.Outcome.the-variants.{Fine, Refused}
-use Rattle.judge.specs.declared.Answer as C
-use Rattle.judge.specs.Judged.{answerAs, endedAs}
-use Rattle.judge.proofs.Answers.{answer-fine, answer-refused, ended-fine, ended-refused}
-use Rattle.output.specs.Numbers.{bytesOf}
-use Rattle.output.proofs.Numbers.{bytes-none}
-use Rattle.rooms.specs.Rooms.{Put, slotsIn, filledAfter}
-use Rattle.rooms.proofs.Laws.{put-sets, with-words, with-bytes}
+use Rattle.walk_items.specs.Items.{versionOf, firstOf, piecesOf}
+use Rattle.walk_items.proofs.Trees.{pieces-of}
+use Rattle.walk_judge.specs.declared.Outcome.the-variants.{Fine, Refused}
+use Rattle.walk_judge.specs.declared.Answer as C
+use Rattle.walk_judge.specs.Judged.{answerAs, endedAs}
+use Rattle.walk_judge.proofs.Answers.{answer-fine, answer-refused, ended-fine, ended-refused}
+use Rattle.writers_output.specs.Numbers.{bytesOf}
+use Rattle.writers_output.proofs.Numbers.{bytes-none}
+use Rattle.walk_rooms.specs.Rooms.{Put, filledAfter}
+use Rattle.entries.specs.Entries.{slotsIn}
+use Rattle.walk_rooms.proofs.Laws.{put-sets, with-words, with-bytes}
 use Rattle.stderr.specs.declared.Stopped.{Stopped}
 use Rattle.stderr.specs.declared.Stopped.the-variants as T
 use Rattle.stderr.specs.Loop.{stoppedAs, recordFor}

@@ -20,9 +20,9 @@ use Rattle.layouts.specs.Calls as L
 use Rattle.layouts.specs.Stderr.{Error, Stopped, stoppedRecord, stderrLoop, stderrAnswer, ifError, errorBlock, errorPieces, readStderrWithError}
 use Rattle.layouts.proofs.Judge.{judge-read, record-room, entries-length}
 use Rattle.layouts.proofs.Placed.{never-both}
-use Rattle.judge.specs.declared.Answer.{Answer}
-use Rattle.judge.specs.declared.Outcome.the-variants.{Fine, Refused}
-use Rattle.judge.proofs.Answers.{answer-fine, refused-keeps, fine-reports, beyond}
+use Rattle.walk_judge.specs.declared.Answer.{Answer}
+use Rattle.walk_judge.specs.declared.Outcome.the-variants.{Fine, Refused}
+use Rattle.walk_judge.proofs.Answers.{answer-fine, refused-keeps, fine-reports, beyond}
 use Rattle.stderr.proofs.read_stderr_with_error.Reads as read-stderr-with-error
 use Rattle.stderr.proofs.read_stderr_with_error.Kinds as read-stderr-with-error-kinds
 

@@ -18,20 +18,20 @@ use Rattle.layouts.specs.Stderr.{noCode, terminal, messageOf, afterPeek, stderr
 use Rattle.layouts.proofs.Views.{NumView, is-value, is-short, num-view}
 use Rattle.layouts.proofs.Placed.{run-placed, ends}
 use Rattle.layouts.proofs.Stderr.{any-bound}
-use Rattle.wire.specs.declared.Peeked.{Peeked}
-use Rattle.wire.specs.declared.Peeked.the-variants as K
-use Rattle.wire.specs.Answers.{peeked}
-use Rattle.codes.specs.declared.stderr.StderrCode.{StderrCode}
-use Rattle.codes.specs.declared.stderr.StderrFound.{StderrFound}
-use Rattle.codes.specs.declared.stderr.StderrFound.the-variants.{Code, None}
+use Rattle.numbers.specs.declared.Number.{Number}
+use Rattle.numbers.specs.declared.Number.the-variants.{Value, Short}
+use Rattle.pieces.specs.Pieces.{numRead}
+use Rattle.codes.specs.declared.StderrCode.{StderrCode}
+use Rattle.codes.specs.declared.StderrFound.{StderrFound}
+use Rattle.codes.specs.declared.StderrFound.the-variants.{Code, None}
 use Rattle.codes.specs.Stderr.{codeNumber, codeOf}
 use Rattle.codes.proofs.Messages.{has-number, no-code}
 use Rattle.table.specs.Table.{groupsAt}
-use Rattle.items.specs.Items.{versionOf, firstOf, layoutPieces, piecesOf}
-use Rattle.items.proofs.Trees.{pieces-of}
-use Rattle.skip.specs.declared.Skipped.{Skipped}
-use Rattle.skip.specs.declared.Skipped.the-variants as S
-use Rattle.skip.specs.Skipped.{skipped}
+use Rattle.walk_items.specs.Items.{versionOf, firstOf, layoutPieces, piecesOf}
+use Rattle.walk_items.proofs.Trees.{pieces-of}
+use Rattle.walk_strings.specs.declared.Passed.{Passed}
+use Rattle.walk_strings.specs.declared.Passed.the-variants as S
+use Rattle.walk_pass.specs.Skip.{skipped}
 use Rattle.stderr.specs.declared.Message.{Message}
 use Rattle.stderr.specs.declared.Message.the-variants.{NoCode, Terminal, Goes}
 use Rattle.stderr.specs.Loop.{said}
@@ -64,8 +64,8 @@ peek-says : {size n at : ℕ} {m : Num} → NumView size n at m → PeekSays siz
 peek-says (is-short h) = h
 peek-says (is-value h) = (h, refl)
 
-peek-known : (s : List ℕ) (at : ℕ) (r y : Peeked) → peeked r ≡ peekNumber s at → r ≡ y → PeekSays (length s) (numberAt s at) at (peeked y)
-peek-known s at r y e q = subst (PeekSays (length s) (numberAt s at) at) (sym e ∙ ap peeked q) (peek-says (num-view (length s) (numberAt s at) at))
+peek-known : (s : List ℕ) (at : ℕ) (r y : Number) → numRead r ≡ peekNumber s at → r ≡ y → PeekSays (length s) (numberAt s at) at (numRead y)
+peek-known s at r y e q = subst (PeekSays (length s) (numberAt s at) at) (sym e ∙ ap numRead q) (peek-says (num-view (length s) (numberAt s at) at))
 
 -- ---- the loop
 pub record Going (s : List ℕ) (at m : ℕ) : Type 0 where
@@ -77,8 +77,8 @@ pub going-start : (s : List ℕ) → Going s 0 0
 unfolding stderrLoop
 going-start s = record { within = omega arith; counted = omega arith; same = refl }
 
-module _ (s : List ℕ) (at m : ℕ) (g : Going s at m) (r : Peeked) (e : peeked r ≡ peekNumber s at) where
-  peeks : (y : Peeked) → r ≡ y → PeekSays (length s) (numberAt s at) at (peeked y)
+module _ (s : List ℕ) (at m : ℕ) (g : Going s at m) (r : Number) (e : numRead r ≡ peekNumber s at) where
+  peeks : (y : Number) → r ≡ y → PeekSays (length s) (numberAt s at) at (numRead y)
   peeks y q = peek-known s at r y e q
 
   -- one turn: b says whether the stream has the number
@@ -87,19 +87,19 @@ module _ (s : List ℕ) (at m : ℕ) (g : Going s at m) (r : Peeked) (e : peeked
   unfolding stderrFrom
   turn b x p q = rw (← p, ← q) (g .same)
 
-  pub none-there : r ≡ K.None → stopped m 0 at ≡ stderrLoop s
+  pub none-there : r ≡ Short → stopped m 0 at ≡ stderrLoop s
   unfolding afterPeek
-  none-there q = turn false (messageOf (numberAt s at)) (lt-leb (at + 8) (length s) (peeks K.None q)) refl
+  none-there q = turn false (messageOf (numberAt s at)) (lt-leb (at + 8) (length s) (peeks Short q)) refl
 
-  module _ (c : ℕ) (q : r ≡ K.Some c) where
+  module _ (c : ℕ) (q : r ≡ Value c) where
     pub there : at + 8 ≤ length s
-    there = peeks (K.Some c) q .0
+    there = peeks (Value c) q .0
 
     module _ (x : Message) (h : said x ≡ messageOf c) where
       turn-as : (y : Message) → x ≡ y
           → afterPeek true (said y) c at m (λ gs. skipOf (run (layout (version 0 0) gs) s (at + 8))) (λ e. stderrFrom (length s) s e (m + 1)) ≡ stderrLoop s
       turn-as y f =
-          let n : c ≡ numberAt s at = peeks (K.Some c) q .1 in
+          let n : c ≡ numberAt s at = peeks (Value c) q .1 in
           ap (λ (d : ℕ). afterPeek true (said y) d at m (λ gs. skipOf (run (layout (version 0 0) gs) s (at + 8))) (λ e. stderrFrom (length s) s e (m + 1))) n ∙
           turn true (said y) (le-leb (at + 8) (length s) there) (ap messageOf (sym n) ∙ sym h ∙ ap said f)
 
@@ -111,12 +111,12 @@ module _ (s : List ℕ) (at m : ℕ) (g : Going s at m) (r : Peeked) (e : peeked
       unfolding afterPeek
       last-message f = turn-as Terminal f
 
-      module _ (i : ℕ) (f : x ≡ Goes i) (l : ℕ) (w : (versionOf l ≡ version 0 0) × (firstOf l ≡ i)) (k : Skipped)
+      module _ (i : ℕ) (f : x ≡ Goes i) (l : ℕ) (w : (versionOf l ≡ version 0 0) × (firstOf l ≡ i)) (k : Passed)
           (z : skipped k ≡ skipOf (piecesOf l s (at + 8))) where
         o : skipped k ≡ skipOf (layoutPieces (version 0 0) i s (at + 8))
         o = z ∙ ap skipOf (pieces-of l (version 0 0) i w s (at + 8))
 
-        skips : (y : Skipped) → k ≡ y → onward (skipped y) (λ e. stderrFrom (length s) s e (m + 1)) ≡ stderrLoop s
+        skips : (y : Passed) → k ≡ y → onward (skipped y) (λ e. stderrFrom (length s) s e (m + 1)) ≡ stderrLoop s
         unfolding afterPeek
         skips y p = ap (λ (z : Result ℕ). onward z (λ e. stderrFrom (length s) s e (m + 1))) (sym (ap skipped p) ∙ o) ∙ turn-as (Goes i) f
 

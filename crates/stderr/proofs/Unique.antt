@@ -4,7 +4,7 @@ use contract.Lifetimes.{Lfts}
 use borrow.Fn.Kinds.{Dens, endedOf}
 use denote.Triple.Clauses.{AtExit}
 use denote.Ref.{now}
-use Rattle.judge.specs.declared.Answer.{Answer}
+use Rattle.walk_judge.specs.declared.Answer.{Answer}
 use Rattle.stderr.proofs.read_stderr_loop.Reads as read-stderr-loop
 use Rattle.stderr.proofs.read_stderr_loop.Kinds as read-stderr-loop-kinds
 use Rattle.stderr.proofs.read_stderr_with_error.Reads as read-stderr-with-error

@@ -1,10 +1,19 @@
 -- What the code's answers mean, in the words of `layouts`.
-use Prim.Native.Nat.{ℕ}
+use Prim.Native.Nat.{ℕ, _/_}
+use mathlib.Core.List.{List, []}
+use lib.ListN.{length}
 use Rattle.layouts.specs.declared.Record.{Record}
-use Rattle.layouts.specs.Primitive.{Result, ok}
+use Rattle.layouts.specs.Primitive.{Result, ok, onward}
 use Rattle.layouts.specs.Refusal.{refusedBy}
+use Rattle.layouts.specs.Pieces.{run}
+use Rattle.layouts.specs.Judge.{judgeOf, entriesOf}
 use Rattle.layouts.specs.Stderr as L
-use Rattle.layouts.specs.Stderr.{noCode, terminal, goes, stoppedRecord}
+use Rattle.layouts.specs.Stderr.{noCode, terminal, goes, stoppedRecord, errorBlock, stderrLoop, stderrAnswer, readStderrWithError, errorPieces}
+use Rattle.writers_output.specs.Numbers.{bytesOf}
+use Rattle.walk_judge.specs.declared.Answer.{Answer}
+use Rattle.walk_judge.specs.Judged.{answerAs}
+use Rattle.walk_rooms.specs.Rooms.{RoomsFilled, roomsFilled, LentRead, lentRead}
+use Rattle.entries.specs.Entries.{slotsIn}
 use Rattle.table.specs.Table.{groupsAt}
 use Rattle.stderr.specs.declared.Message.{Message}
 use Rattle.stderr.specs.declared.Message.the-variants.{NoCode, Terminal, Goes}
@@ -22,3 +31,23 @@ stoppedAs (Refused r) = refusedBy r
 
 abbrev pub recordFor : (messages code : ℕ) → Record
 recordFor messages code = stoppedRecord (record { messages = messages; code = code; ends = 0 })
+
+-- ---- the answer, and the entries afterwards. No payload is there
+-- the error block from a place on, with the record so far
+abbrev pub blockFilled : List ℕ → (at : ℕ) → Record → (words bytes : List ℕ) → RoomsFilled Answer
+blockFilled s at sofar words bytes =
+    roomsFilled (λ o. answerAs (onward o (λ e. stderrAnswer (e .ends) (e .found)))) (judgeOf s (slotsIn words bytes) 0 sofar (run errorBlock s at))
+    (entriesOf (run errorBlock s at)) [] words bytes []
+
+-- the loop, and behind Error its block
+abbrev pub errorEntries : List ℕ → List ℕ
+errorEntries s = entriesOf (errorPieces s (stderrLoop s))
+
+abbrev pub errorFilled : (s words bytes : List ℕ) → RoomsFilled Answer
+errorFilled s words bytes = roomsFilled answerAs (readStderrWithError s (slotsIn words bytes)) (errorEntries s) [] words bytes []
+
+abbrev pub errorRead : (s entries : List ℕ) → LentRead Answer
+errorRead s entries = lentRead answerAs (readStderrWithError s (length entries / 2)) (errorEntries s) [] entries []
+
+abbrev pub errorReadBytes : (s entries : List ℕ) → LentRead Answer
+errorReadBytes s entries = lentRead answerAs (readStderrWithError s (length entries / 16)) (bytesOf (errorEntries s)) [] entries []

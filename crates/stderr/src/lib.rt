@@ -1,27 +1,19 @@
 // The stderr loop: the messages that a daemon sends before its reply, with and without the error block. Names are those of nix-wire's protocol.rs.
 ghost use mathlib.Core.Path.{_≡_};
-ghost use Prim.Native.Nat.{_/_};
-ghost use lib.ListN.{length};
-ghost use Rattle.layouts.specs.Primitive.{onward};
-ghost use Rattle.layouts.specs.Pieces.{run};
-ghost use Rattle.layouts.specs.Judge.{judgeOf, entriesOf, lentAfter};
-ghost use Rattle.layouts.specs.Stderr.{messageOf, errorBlock, stderrLoop, stderrAnswer, readStderrLoop, readStderrWithError, errorPieces};
+ghost use Rattle.layouts.specs.Stderr.{messageOf, stderrLoop, stderrAnswer, readStderrLoop};
 ghost use Rattle.codes.specs.Stderr.{codeNumber};
-ghost use Rattle.output.specs.Numbers.{bytesOf};
-ghost use Rattle.judge.specs.Judged.{answerAs};
-ghost use Rattle.rooms.specs.Rooms.{slotsIn, filledAfter};
-ghost use Rattle.stderr.specs.Loop.{said, stoppedAs, recordFor};
-use codes::stderr::StderrCode;
-use codes::stderr::StderrFound;
-use judge::Answer;
-use judge::Outcome;
+ghost use Rattle.walk_judge.specs.Judged.{answerAs};
+ghost use Rattle.stderr.specs.Loop.{said, stoppedAs, recordFor, blockFilled, errorFilled, errorRead, errorReadBytes};
+use codes::StderrCode;
+use codes::StderrFound;
 use layouts::Record;
 use layouts::Refusal;
-use skip::Skipped;
-use wire::Cursor;
-use wire::Peeked;
+use numbers::Number;
+use walk_judge::Answer;
+use walk_judge::Outcome;
+use walk_strings::Passed;
 
-// What a number at the place of a code says: no code; a terminal one; one that the layout at a run follows.
+// What a number at the place of a code says: no code; a terminal one; one that the layout at a group follows.
 enum Message {
     NoCode,
     Terminal,
@@ -70,17 +62,16 @@ fn stderr_loop(s: &[u8]) -> Stopped
     let mut at: usize = 0;
     let mut messages: u64 = 0;
     loop {
-        let here = Cursor { at };
-        let p = here.peek_u64(s);
+        let p = pieces::number_at(s, at);
         match p {
-            Peeked::None => {
+            Number::Short => {
                 return Stopped::Stops {
                     messages,
                     code: 0,
                     ends: at,
                 };
             }
-            Peeked::Some(c) => {
+            Number::Value(c) => {
                 let m = find_message(c);
                 match m {
                     Message::NoCode => {
@@ -99,14 +90,14 @@ fn stderr_loop(s: &[u8]) -> Stopped
                             ends,
                         };
                     }
-                    Message::Goes(run) => {
+                    Message::Goes(first) => {
                         let body = at + 8;
-                        let k = skip::skip(s, body, items::layout(0, 0, run));
+                        let k = walk_pass::skip(s, body, walk_items::layout(0, 0, first));
                         match k {
-                            Skipped::Refused(r) => {
+                            Passed::Refused(r) => {
                                 return Stopped::Refused(r);
                             }
-                            Skipped::Past(next) => {
+                            Passed::Past(next) => {
                                 at = next;
                                 messages = messages + 1;
                             }
@@ -121,7 +112,7 @@ fn stderr_loop(s: &[u8]) -> Stopped
 fn stopped_record(messages: u64, code: u64) -> Record
     ensures { λ r. ⌜ r ≡ recordFor messages code ⌝ }
 {
-    let mut r = judge::empty();
+    let mut r = walk_judge::empty();
     r.numbers[0] = messages;
     r.numbers[1] = code;
     r
@@ -144,7 +135,7 @@ pub fn read_stderr_loop(s: &[u8]) -> Answer
 {
     let l = stderr_loop(s);
     match l {
-        Stopped::Refused(r) => judge::refused_answer(r),
+        Stopped::Refused(r) => walk_judge::refused_answer(r),
         Stopped::Stops {
             messages,
             code,
@@ -161,29 +152,29 @@ fn read_error_block(
     words: &mut [u64],
     bytes: &mut [u8],
 ) -> Answer
-    ensures answer { λ r. ⌜ r ≡ answerAs (onward (judgeOf (now (s .entry)) (slotsIn (now (words .entry)) (now (bytes .entry))) 0 sofar (run errorBlock (now (s .entry)) at)) (λ e. stderrAnswer (e .ends) (e .found))) ⌝ }
-    ensures words { λ r. ⌜ now (words .exit) ≡ filledAfter (judgeOf (now (s .entry)) (slotsIn (now (words .entry)) (now (bytes .entry))) 0 sofar (run errorBlock (now (s .entry)) at)) (entriesOf (run errorBlock (now (s .entry)) at)) (now (words .entry)) ⌝ }
-    ensures bytes { λ r. ⌜ now (bytes .exit) ≡ filledAfter (judgeOf (now (s .entry)) (slotsIn (now (words .entry)) (now (bytes .entry))) 0 sofar (run errorBlock (now (s .entry)) at)) (bytesOf (entriesOf (run errorBlock (now (s .entry)) at))) (now (bytes .entry)) ⌝ }
+    ensures answer { λ r. ⌜ r ≡ blockFilled (now (s .entry)) at sofar (now (words .entry)) (now (bytes .entry)) .answer ⌝ }
+    ensures words { λ r. ⌜ now (words .exit) ≡ blockFilled (now (s .entry)) at sofar (now (words .entry)) (now (bytes .entry)) .words ⌝ }
+    ensures bytes { λ r. ⌜ now (bytes .exit) ≡ blockFilled (now (s .entry)) at sofar (now (words .entry)) (now (bytes .entry)) .bytes ⌝ }
 {
-    let block = items::layout(0, 0, table::ERROR_BLOCK);
-    let a = judge::judge_record(s, at, block, rooms::slots(words, bytes), 0, sofar);
+    let block = walk_items::layout(0, 0, table::ERROR_BLOCK);
+    let a = walk_judge::judge_record(s, at, block, entries::slots(words, bytes), 0, sofar);
     let o = a.outcome;
     let Outcome::Fine = o else {
         return a;
     };
-    fill::fill_entries(s, at, block, words, 0, bytes, 0);
+    walk_fill::fill_entries(s, at, block, words, 0, bytes, 0);
     a
 }
 
 // The loop, and behind Error its block.
 fn read(s: &[u8], words: &mut [u64], bytes: &mut [u8]) -> Answer
-    ensures answer { λ r. ⌜ r ≡ answerAs (readStderrWithError (now (s .entry)) (slotsIn (now (words .entry)) (now (bytes .entry)))) ⌝ }
-    ensures words { λ r. ⌜ now (words .exit) ≡ filledAfter (readStderrWithError (now (s .entry)) (slotsIn (now (words .entry)) (now (bytes .entry)))) (entriesOf (errorPieces (now (s .entry)) (stderrLoop (now (s .entry))))) (now (words .entry)) ⌝ }
-    ensures bytes { λ r. ⌜ now (bytes .exit) ≡ filledAfter (readStderrWithError (now (s .entry)) (slotsIn (now (words .entry)) (now (bytes .entry)))) (bytesOf (entriesOf (errorPieces (now (s .entry)) (stderrLoop (now (s .entry)))))) (now (bytes .entry)) ⌝ }
+    ensures answer { λ r. ⌜ r ≡ errorFilled (now (s .entry)) (now (words .entry)) (now (bytes .entry)) .answer ⌝ }
+    ensures words { λ r. ⌜ now (words .exit) ≡ errorFilled (now (s .entry)) (now (words .entry)) (now (bytes .entry)) .words ⌝ }
+    ensures bytes { λ r. ⌜ now (bytes .exit) ≡ errorFilled (now (s .entry)) (now (words .entry)) (now (bytes .entry)) .bytes ⌝ }
 {
     let l = stderr_loop(s);
     match l {
-        Stopped::Refused(r) => judge::refused_answer(r),
+        Stopped::Refused(r) => walk_judge::refused_answer(r),
         Stopped::Stops {
             messages,
             code,
@@ -199,8 +190,8 @@ fn read(s: &[u8], words: &mut [u64], bytes: &mut [u8]) -> Answer
 }
 
 pub fn read_stderr_with_error(s: &[u8], entries: &mut [u64]) -> Answer
-    ensures answer { λ r. ⌜ r ≡ answerAs (readStderrWithError (now (s .entry)) (length (now (entries .entry)) / 2)) ⌝ }
-    ensures entries { λ r. ⌜ now (entries .exit) ≡ lentAfter (readStderrWithError (now (s .entry)) (length (now (entries .entry)) / 2)) (entriesOf (errorPieces (now (s .entry)) (stderrLoop (now (s .entry))))) (now (entries .entry)) ⌝ }
+    ensures answer { λ r. ⌜ r ≡ errorRead (now (s .entry)) (now (entries .entry)) .answer ⌝ }
+    ensures entries { λ r. ⌜ now (entries .exit) ≡ errorRead (now (s .entry)) (now (entries .entry)) .entries ⌝ }
 {
     let mut none: [u8; 0] = [];
     read(s, entries, &mut none)
@@ -208,8 +199,8 @@ pub fn read_stderr_with_error(s: &[u8], entries: &mut [u64]) -> Answer
 
 // The same with entries of sixteen bytes.
 pub fn read_stderr_with_error_bytes(s: &[u8], entries: &mut [u8]) -> Answer
-    ensures answer { λ r. ⌜ r ≡ answerAs (readStderrWithError (now (s .entry)) (length (now (entries .entry)) / 16)) ⌝ }
-    ensures entries { λ r. ⌜ now (entries .exit) ≡ lentAfter (readStderrWithError (now (s .entry)) (length (now (entries .entry)) / 16)) (bytesOf (entriesOf (errorPieces (now (s .entry)) (stderrLoop (now (s .entry)))))) (now (entries .entry)) ⌝ }
+    ensures answer { λ r. ⌜ r ≡ errorReadBytes (now (s .entry)) (now (entries .entry)) .answer ⌝ }
+    ensures entries { λ r. ⌜ now (entries .exit) ≡ errorReadBytes (now (s .entry)) (now (entries .entry)) .entries ⌝ }
 {
     let mut none: [u64; 0] = [];
     read(s, &mut none, entries)

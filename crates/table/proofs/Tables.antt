@@ -1,4 +1,4 @@
--- The tables are read by place: an entry past the end of a table is 0, and the fields of a run, the runs of a layout, follow one another.
+-- The tables are read by place: an entry past the end of a table is 0, and the fields of a group, the groups of a layout, follow one another.
 use Prim.Native.Nat.{ℕ, zero, suc, _+_, _%_, _≤_, _<_}
 use mathlib.Core.Path.{_≡_, refl, sym, _∙_, ap}
 use mathlib.Core.List.{List, [], _∷_}
@@ -8,9 +8,9 @@ use native.Mathlib.Nat.{not-suc-le-zero, le-of-suc-le-suc}
 use native.Mathlib.Numerals.{add-one}
 use native.Mathlib.Decide.{decLt}
 use Rattle.table.specs.declared.Field.{Field}
-use Rattle.table.specs.declared.Run.{Run}
+use Rattle.table.specs.declared.PackedGroup.{PackedGroup}
 use Rattle.table.specs.Packed.{size, packedTable}
-use Rattle.table.specs.Table.{fieldOf, runOf, fieldAt, runAt, unlessEnd, consItem, items, itemsAt, consRun, groupsIn, groupsAt}
+use Rattle.table.specs.Table.{fieldOf, packedGroup, fieldAt, groupAt, unlessEnd, consItem, items, itemsAt, consGroup, groupsIn, groupsAt}
 
 -- i is none of the first n numbers, as the last arm of a match is told
 abbrev pub Misses : ℕ → ℕ → Type 0
@@ -26,7 +26,7 @@ getD-past [] i d h = refl
 getD-past (x ∷ l) zero d h = absurd (not-suc-le-zero h)
 getD-past (x ∷ l) (suc i) d h = getD-past l i d (le-of-suc-le-suc h)
 
--- ---- one field, one run at a time
+-- ---- one field, one group at a time
 items-at : (l : List ℕ) (i : ℕ) → items (drop i l) ≡ consItem (fieldOf (getD l i 0)) (λ u. items (drop (suc i) l))
 unfolding items consItem unlessEnd
 items-at [] zero = refl
@@ -38,16 +38,16 @@ pub items-step : (pc : ℕ) → itemsAt pc ≡ consItem (fieldAt pc) (λ u. item
 unfolding itemsAt fieldAt
 items-step pc = items-at packedTable pc ∙ ap (λ (i : ℕ). consItem (fieldAt pc) (λ u. items (drop i packedTable))) (sym (add-one pc))
 
-groups-at : (l : List ℕ) (i : ℕ) → groupsIn (drop i l) ≡ consRun (runOf (getD l i 0)) (λ u. groupsIn (drop (suc i) l))
-unfolding groupsIn consRun unlessEnd
+groups-at : (l : List ℕ) (i : ℕ) → groupsIn (drop i l) ≡ consGroup (packedGroup (getD l i 0)) (λ u. groupsIn (drop (suc i) l))
+unfolding groupsIn consGroup unlessEnd
 groups-at [] zero = refl
 groups-at [] (suc i) = refl
 groups-at (f ∷ l) zero = refl
 groups-at (f ∷ l) (suc i) = groups-at l i
 
-pub groups-step : (i : ℕ) → groupsAt i ≡ consRun (runAt i) (λ u. groupsAt (i + 1))
-unfolding groupsAt runAt
-groups-step i = groups-at packedTable i ∙ ap (λ (j : ℕ). consRun (runAt i) (λ u. groupsIn (drop j packedTable))) (sym (add-one i))
+pub groups-step : (i : ℕ) → groupsAt i ≡ consGroup (groupAt i) (λ u. groupsAt (i + 1))
+unfolding groupsAt groupAt
+groups-step i = groups-at packedTable i ∙ ap (λ (j : ℕ). consGroup (groupAt i) (λ u. groupsIn (drop j packedTable))) (sym (add-one i))
 
 -- ---- an entry that ends nothing is in the table
 past-0 : (i : ℕ) → size ≤ i → getD packedTable i 0 ≡ 0
@@ -62,18 +62,18 @@ pub field-in : (pc : ℕ) (f : Field) → f ≡ fieldAt pc → (f .kind ≡ 0 �
 unfolding fieldAt
 field-in pc f e k = in-by pc (λ z. k (rw e (ap (λ (x : ℕ). x % 16) z))) (decLt pc size)
 
-pub run-in : (i : ℕ) (r : Run) → r ≡ runAt i → (r .kind ≡ 0 → ⊥) → i < size
-unfolding runAt
-run-in i r e k = in-by i (λ z. k (rw e (ap (λ (x : ℕ). x % 4) z))) (decLt i size)
+pub group-in : (i : ℕ) (r : PackedGroup) → r ≡ groupAt i → (r .kind ≡ 0 → ⊥) → i < size
+unfolding groupAt
+group-in i r e k = in-by i (λ z. k (rw e (ap (λ (x : ℕ). x % 4) z))) (decLt i size)
 
--- ---- what is packed at a place is a field, and a run
+-- ---- what is packed at a place is a field, and a group
 pub packed-field : (pc x : ℕ) → x ≡ getD packedTable pc 0 → fieldOf x ≡ fieldAt pc
 unfolding fieldAt
 packed-field pc x e = ap fieldOf e
 
-pub packed-run : (i x : ℕ) → x ≡ getD packedTable i 0 → runOf x ≡ runAt i
-unfolding runAt
-packed-run i x e = ap runOf e
+pub packed-group : (i x : ℕ) → x ≡ getD packedTable i 0 → packedGroup x ≡ groupAt i
+unfolding groupAt
+packed-group i x e = ap packedGroup e
 
 -- an arm of the match
 pub entry : (l : List ℕ) {i k : ℕ} → i ≡ k → getD l k 0 ≡ getD l i 0

@@ -3,7 +3,7 @@ use Prim.Native.Nat.{ℕ}
 use mathlib.Core.Path.{_≡_, refl}
 use mathlib.Core.List.{List, [], _∷_, _++_, map}
 use Rattle.layouts.specs.Primitive.{version}
-use Rattle.layouts.specs.Shape.{asCount, kept, set, Group, once, layout}
+use Rattle.layouts.specs.Shape.{asCount, kept, set, framed, Group, once, layout}
 use Rattle.layouts.specs.Operations.{Kinds, only, byVersion, byFlag, kindNumber, skipKind, skipped, Operation, aNumber, operations}
 use Rattle.layouts.specs.Calls.{older, field}
 use Rattle.layouts.specs.Stderr.{Next, Read, Write, StartActivity, StopActivity, Result#, goes, messageOf, errorBlock}
@@ -13,7 +13,7 @@ use Rattle.table.specs.Numbered.{Numbered, just}
 use Rattle.table.specs.Numbered as K
 use Rattle.table.specs.Packed.{packedTable, rows}
 use Rattle.table.specs.Packed as P
-use Rattle.table.specs.Table.{roleOf, slotOf, whatOf, itemOf, unlessEnd, consItem, items, itemsAt, groupOf, consRun, groupsIn, groupsAt, numberedOf}
+use Rattle.table.specs.Table.{roleOf, slotOf, whatOf, itemOf, unlessEnd, consItem, items, itemsAt, groupOf, consGroup, groupsIn, groupsAt, numberedOf}
 
 -- kinds by their numbers
 abbrev pub numbered : Kinds → Numbered
@@ -56,7 +56,7 @@ wanted o =
     }
 
 pub rows-say : map said rows ≡ map wanted operations
-unfolding operations groupsAt groupsIn consRun groupOf itemsAt items consItem unlessEnd itemOf whatOf slotOf roleOf packedTable numberedOf
+unfolding operations groupsAt groupsIn consGroup groupOf itemsAt items consItem unlessEnd itemOf whatOf slotOf roleOf packedTable numberedOf
 rows-say = refl
 
 -- the other layouts
@@ -75,12 +75,13 @@ pub record Others : Type 0 where
   pub obsoletes : once obsoleteFields ∷ [] ≡ groupsAt P.obsolete
   pub infos : once infoFields ∷ [] ≡ groupsAt P.info
   pub strings : field (set kept (asCount 0)) ≡ layout (version 0 0) (groupsAt P.stringSet)
+  pub chunks : field framed ≡ layout (version 0 0) (groupsAt P.framedData)
   pub none : [] ≡ groupsAt P.nothing
   pub empty : once [] ∷ [] ≡ groupsAt P.emptyFields
   pub number : aNumber ≡ groupsAt P.oneNumber
 
 pub others : Others
-unfolding messageOf errorBlock groupsAt groupsIn consRun groupOf itemsAt items consItem unlessEnd itemOf whatOf slotOf roleOf packedTable
+unfolding messageOf errorBlock groupsAt groupsIn consGroup groupOf itemsAt items consItem unlessEnd itemOf whatOf slotOf roleOf packedTable
 others =
     record {
       next = refl;
@@ -97,6 +98,7 @@ others =
       obsoletes = refl;
       infos = refl;
       strings = refl;
+      chunks = refl;
       none = refl;
       empty = refl;
       number = refl;

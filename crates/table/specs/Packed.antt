@@ -5,178 +5,180 @@ use Rattle.table.specs.declared.Row.{Row}
 use Rattle.table.specs.Numbered.{Numbered, just, byVersion, byFlag}
 
 abbrev pub size : ℕ
-size = 279
+size = 281
 
--- the runs of the layouts, then their fields
+-- the groups of the layouts, then their fields
 abbrev pub packedList : List ℕ
 packedList =
     -- 0: S
-    54017 ∷ 0 ∷
-    -- 2: N
-    60929 ∷ 0 ∷
-    -- 4: S*
-    55041 ∷ 0 ∷
-    -- 6: from 1.25 S S S* flag F
-    46081 ∷ 0 ∷
-    -- 8: below 1.25 S n n s, from 1.25 S s s* n
-    37377 ∷ 0 ∷
-    -- 10: below 1.25 S, from 1.25 S without entry S S S* N N flag S* S
-    31745 ∷ 0 ∷
-    -- 12: S S S*
     54529 ∷ 0 ∷
-    -- 14: s s s*
-    55553 ∷ 0 ∷
-    -- 16: S* N
-    60673 ∷ 0 ∷
-    -- 18: s* n
+    -- 2: N
     61441 ∷ 0 ∷
+    -- 4: S*
+    55553 ∷ 0 ∷
+    -- 6: from 1.25 S S S* flag F
+    46593 ∷ 0 ∷
+    -- 8: below 1.25 S n n s, from 1.25 S s s* n
+    37889 ∷ 0 ∷
+    -- 10: below 1.25 S, from 1.25 S without entry S S S* N N flag S* S
+    32257 ∷ 0 ∷
+    -- 12: S S S*
+    55041 ∷ 0 ∷
+    -- 14: s s s*
+    56065 ∷ 0 ∷
+    -- 16: S* N
+    61185 ∷ 0 ∷
+    -- 18: s* n
+    61953 ∷ 0 ∷
     -- 20: nothing
-    27905 ∷ 0 ∷
+    28417 ∷ 0 ∷
     -- 22: P
-    68353 ∷ 0 ∷
-    -- 24: N N N N N N N N N N, from 1.10 N, from 1.12 N P
-    24577 ∷ 0 ∷
-    -- 26: n n n n n n n n n n, from 1.10 n, from 1.12 n p
-    28161 ∷ 0 ∷
-    -- 28: N S* N N n n n
-    41985 ∷ 0 ∷
-    -- 30: n s* n n n n n
-    44033 ∷ 0 ∷
-    -- 32: N n n
-    56577 ∷ 0 ∷
-    -- 34: flag, if true S S* N N
-    50802 ∷ 0 ∷
-    -- 36: flag, if true S S S* N N, from 1.16 flag S* S
-    39794 ∷ 0 ∷
-    -- 38: s*
     68865 ∷ 0 ∷
-    -- 40: count of S S s* n n
-    47719 ∷ 0 ∷
-    -- 42: S*, from 1.27 flag
-    62209 ∷ 0 ∷
-    -- 44: s*, from 1.27 n
-    62977 ∷ 0 ∷
-    -- 46: flag flag
-    63745 ∷ 0 ∷
-    -- 48: n n
-    43265 ∷ 0 ∷
-    -- 50: n s, from 1.29 n n n n, from 1.37 flag with n flag with n, from 1.28 p
-    34817 ∷ 0 ∷
-    -- 52: S S*
-    54785 ∷ 0 ∷
-    -- 54: S s*
-    64513 ∷ 0 ∷
-    -- 56: from 1.23 F
+    -- 24: N N N N N N N N N N, from 1.10 N, from 1.12 N P
+    25089 ∷ 0 ∷
+    -- 26: n n n n n n n n n n, from 1.10 n, from 1.12 n p
+    28673 ∷ 0 ∷
+    -- 28: N S* N N n n n
+    42497 ∷ 0 ∷
+    -- 30: n s* n n n n n
+    44545 ∷ 0 ∷
+    -- 32: N n n
+    57089 ∷ 0 ∷
+    -- 34: flag, if true S S* N N
+    51314 ∷ 0 ∷
+    -- 36: flag, if true S S S* N N, from 1.16 flag S* S
+    40306 ∷ 0 ∷
+    -- 38: s*
     69377 ∷ 0 ∷
+    -- 40: count of S S s* n n
+    48231 ∷ 0 ∷
+    -- 42: S*, from 1.27 flag
+    62721 ∷ 0 ∷
+    -- 44: s*, from 1.27 n
+    63489 ∷ 0 ∷
+    -- 46: flag flag
+    64257 ∷ 0 ∷
+    -- 48: n n
+    43777 ∷ 0 ∷
+    -- 50: n s, from 1.29 n n n n, from 1.37 flag with n flag with n, from 1.28 p
+    35329 ∷ 0 ∷
+    -- 52: S S*
+    55297 ∷ 0 ∷
+    -- 54: S s*
+    65025 ∷ 0 ∷
+    -- 56: from 1.23 F
+    69889 ∷ 0 ∷
     -- 58: S* S* S* N N
-    49153 ∷ 0 ∷
+    49665 ∷ 0 ∷
     -- 60: flag flag F
-    57601 ∷ 0 ∷
+    58113 ∷ 0 ∷
     -- 62: S F
-    65281 ∷ 0 ∷
+    65793 ∷ 0 ∷
     -- 64: count of s n s, from 1.29 n n n n, from 1.37 flag with n flag with n, from 1.28 p
-    34563 ∷ 0 ∷
+    35075 ∷ 0 ∷
     -- 66: S S
-    53761 ∷ 0 ∷
+    54273 ∷ 0 ∷
     -- 68: s s
-    66049 ∷ 0 ∷
+    66561 ∷ 0 ∷
     -- 70: s
-    52737 ∷ 0 ∷
+    53249 ∷ 0 ∷
     -- 72: n
-    43521 ∷ 0 ∷
+    44033 ∷ 0 ∷
     -- 74: n n n s, count of typed, n
-    51969 ∷ 69891 ∷ 43521 ∷ 0 ∷
+    52481 ∷ 70403 ∷ 44033 ∷ 0 ∷
     -- 78: n n, count of typed
-    43265 ∷ 69891 ∷ 0 ∷
+    43777 ∷ 70403 ∷ 0 ∷
     -- 81: S N S S, flag, if true s n n
-    53249 ∷ 58626 ∷ 0 ∷
+    53761 ∷ 59138 ∷ 0 ∷
     -- 84: N N
-    49921 ∷ 0 ∷
+    50433 ∷ 0 ∷
     -- 86: N N
-    66817 ∷ 0 ∷
+    67329 ∷ 0 ∷
     -- 88: from 1.38 S*
-    70401 ∷ 0 ∷
-    -- 90: from 1.38 S*
     70913 ∷ 0 ∷
+    -- 90: from 1.38 S*
+    71425 ∷ 0 ∷
     -- 92: from 1.14 flag with n, from 1.11 n
-    67585 ∷ 0 ∷
+    68097 ∷ 0 ∷
     -- 94: from 1.33 S, from 1.35 N, N
-    59649 ∷ 0 ∷
-    -- 96: N N N N N N N N N N, from 1.10 N, from 1.12 N P
+    60161 ∷ 0 ∷
+    -- 96: F
+    58625 ∷ 0 ∷
+    -- 98: N N N N N N N N N N, from 1.10 N, from 1.12 N P
     65 ∷ 129 ∷ 193 ∷ 257 ∷ 321 ∷ 385 ∷ 449 ∷ 513 ∷ 577 ∷ 641 ∷ 168641 ∷ 201473 ∷ 202340 ∷ 0 ∷
-    -- 110: n n n n n n n n n n, from 1.10 n, from 1.12 n p
+    -- 112: n n n n n n n n n n, from 1.10 n, from 1.12 n p
     1 ∷ 1 ∷ 1 ∷ 1 ∷ 1 ∷ 1 ∷ 1 ∷ 1 ∷ 1 ∷ 1 ∷ 167937 ∷ 200705 ∷ 200772 ∷ 0 ∷
-    -- 124: below 1.25 S, from 1.25 S without entry S S S* N N flag S* S
+    -- 126: below 1.25 S, from 1.25 S without entry S S S* N N flag S* S
     417826 ∷ 413714 ∷ 413730 ∷ 413730 ∷ 415331 ∷ 413761 ∷ 413825 ∷ 414657 ∷ 415395 ∷ 413730 ∷ 0 ∷
-    -- 135: s n s, from 1.29 n n n n, from 1.37 flag with n flag with n, from 1.28 p
+    -- 137: s n s, from 1.29 n n n n, from 1.37 flag with n flag with n, from 1.28 p
     2 ∷ 1 ∷ 2 ∷ 479233 ∷ 479233 ∷ 479233 ∷ 479233 ∷ 610310 ∷ 610310 ∷ 462852 ∷ 0 ∷
-    -- 146: below 1.25 S n n s, from 1.25 S s s* n
+    -- 148: below 1.25 S n n s, from 1.25 S s s* n
     417826 ∷ 417793 ∷ 417793 ∷ 417794 ∷ 413730 ∷ 413698 ∷ 413699 ∷ 413697 ∷ 0 ∷
-    -- 155: S S S* N N, from 1.16 flag S* S
+    -- 157: S S S* N N, from 1.16 flag S* S
     34 ∷ 34 ∷ 1635 ∷ 65 ∷ 129 ∷ 267201 ∷ 267939 ∷ 266274 ∷ 0 ∷
-    -- 164: N S* N N n n n
+    -- 166: N S* N N n n n
     65 ∷ 1635 ∷ 129 ∷ 193 ∷ 1 ∷ 1 ∷ 1 ∷ 0 ∷
-    -- 172: n s* n n n n n
+    -- 174: n s* n n n n n
     1 ∷ 3 ∷ 1 ∷ 1 ∷ 1 ∷ 1 ∷ 1 ∷ 0 ∷
-    -- 180: from 1.25 S S S* flag F
+    -- 182: from 1.25 S S S* flag F
     413730 ∷ 413730 ∷ 415331 ∷ 414529 ∷ 413701 ∷ 0 ∷
-    -- 186: S S s* n n
+    -- 188: S S s* n n
     34 ∷ 34 ∷ 3 ∷ 1 ∷ 1 ∷ 0 ∷
-    -- 192: S* S* S* N N
+    -- 194: S* S* S* N N
     1635 ∷ 1699 ∷ 1763 ∷ 65 ∷ 129 ∷ 0 ∷
-    -- 198: S S* N N
+    -- 200: S S* N N
     34 ∷ 1635 ∷ 65 ∷ 129 ∷ 0 ∷
-    -- 203: n n n s
+    -- 205: n n n s
     1 ∷ 1 ∷ 1 ∷ 2 ∷ 0 ∷
-    -- 208: S N S S
+    -- 210: S N S S
     34 ∷ 193 ∷ 34 ∷ 34 ∷ 0 ∷
-    -- 213: S S S*
+    -- 215: S S S*
     34 ∷ 34 ∷ 1635 ∷ 0 ∷
-    -- 217: s s s*
+    -- 219: s s s*
     2 ∷ 2 ∷ 3 ∷ 0 ∷
-    -- 221: N n n
+    -- 223: N n n
     65 ∷ 1 ∷ 1 ∷ 0 ∷
-    -- 225: flag flag F
+    -- 227: flag flag F
     833 ∷ 897 ∷ 5 ∷ 0 ∷
-    -- 229: s n n
+    -- 231: s n n
     2 ∷ 1 ∷ 1 ∷ 0 ∷
-    -- 233: from 1.33 S, from 1.35 N, N
+    -- 235: from 1.33 S, from 1.35 N, N
     544802 ∷ 577857 ∷ 385 ∷ 0 ∷
-    -- 237: S* N
+    -- 239: S* N
     1635 ∷ 65 ∷ 0 ∷
-    -- 240: s* n
+    -- 242: s* n
     67 ∷ 1 ∷ 0 ∷
-    -- 243: S*, from 1.27 flag
+    -- 245: S*, from 1.27 flag
     1635 ∷ 447297 ∷ 0 ∷
-    -- 246: s*, from 1.27 n
+    -- 248: s*, from 1.27 n
     67 ∷ 446465 ∷ 0 ∷
-    -- 249: flag flag
+    -- 251: flag flag
     833 ∷ 897 ∷ 0 ∷
-    -- 252: S s*
+    -- 254: S s*
     34 ∷ 3 ∷ 0 ∷
-    -- 255: S F
+    -- 257: S F
     34 ∷ 5 ∷ 0 ∷
-    -- 258: s s
+    -- 260: s s
     2 ∷ 2 ∷ 0 ∷
-    -- 261: N N
+    -- 263: N N
     193 ∷ 257 ∷ 0 ∷
-    -- 264: from 1.14 flag with n, from 1.11 n
+    -- 266: from 1.14 flag with n, from 1.11 n
     233478 ∷ 184321 ∷ 0 ∷
-    -- 267: P
+    -- 269: P
     1636 ∷ 0 ∷
-    -- 269: s*
+    -- 271: s*
     67 ∷ 0 ∷
-    -- 271: from 1.23 F
+    -- 273: from 1.23 F
     380933 ∷ 0 ∷
-    -- 273: typed
+    -- 275: typed
     7 ∷ 0 ∷
-    -- 275: from 1.38 S*
-    628323 ∷ 0 ∷
     -- 277: from 1.38 S*
+    628323 ∷ 0 ∷
+    -- 279: from 1.38 S*
     628387 ∷ 0 ∷
     []
 
--- number; runs of arguments, skipped arguments, reply; the codes of their kinds
+-- number; groups of arguments, skipped arguments, reply; the codes of their kinds
 abbrev op : (number arguments skipped reply argumentsKind skippedKind replyKind : ℕ) → Row
 op n a k r ak kk rk = record { number = n; arguments = a; skipped = k; reply = r; «arguments_kind» = ak; «skipped_kind» = kk; «reply_kind» = rk }
 
@@ -221,7 +223,7 @@ rows =
     op 47 66 68 0 10 1 2 ∷
     []
 
--- the runs of the other layouts
+-- the groups of the other layouts
 abbrev pub stringMessage : ℕ
 stringMessage = 70
 
@@ -257,6 +259,9 @@ info = 94
 
 abbrev pub stringSet : ℕ
 stringSet = 4
+
+abbrev pub framedData : ℕ
+framedData = 96
 
 abbrev pub nothing : ℕ
 nothing = 1

@@ -7,7 +7,7 @@ use lib.Dec.{ltb, eqb}
 use Rattle.layouts.specs.Primitive.{pick, Version, version}
 use Rattle.layouts.specs.Shape.{Slot, dropped, asNumber, asFlag, asCount, asPresence, Role, passed, checked, kept, What, num, str, set, pairs, framed, maybe, typed, Item, always, from, below, Group, once, opt, many}
 use Rattle.table.specs.declared.Field.{Field}
-use Rattle.table.specs.declared.Run.{Run}
+use Rattle.table.specs.declared.PackedGroup.{PackedGroup}
 use Rattle.table.specs.declared.Row.{Row}
 use Rattle.table.specs.declared.Found.{Found}
 use Rattle.table.specs.declared.Found.the-variants as F
@@ -17,14 +17,14 @@ use Rattle.table.specs.Packed.{packedTable, rows, firstCode, kindList}
 abbrev pub fieldOf : ℕ → Field
 fieldOf x = record { kind = x % 16; role = x / 16 % 4; slot = x / 64 % 64; gate = x / 4096 % 4; minor = x / 16384 % 256 }
 
-abbrev pub runOf : ℕ → Run
-runOf x = record { kind = x % 4; slot = x / 4 % 64; start = x / 256 }
+abbrev pub packedGroup : ℕ → PackedGroup
+packedGroup x = record { kind = x % 4; slot = x / 4 % 64; start = x / 256 }
 
 unfoldable pub fieldAt : ℕ → Field
 fieldAt pc = fieldOf (getD packedTable pc 0)
 
-unfoldable pub runAt : ℕ → Run
-runAt i = runOf (getD packedTable i 0)
+unfoldable pub groupAt : ℕ → PackedGroup
+groupAt i = packedGroup (getD packedTable i 0)
 
 -- ---- roles and slots by number
 unfoldable pub roleOf : ℕ → Role
@@ -35,7 +35,7 @@ slotOf i =
     pick (eqb i 0) dropped
     (pick (ltb i 13) (asNumber (i - 1)) (pick (ltb i 25) (asFlag (i - 13)) (pick (ltb i 28) (asCount (i - 25)) asPresence)))
 
--- ---- a field, and the fields of a run up to its end
+-- ---- a field, and the fields of a group up to its end
 unfoldable pub whatOf : (kind : ℕ) → Role → Slot → What
 whatOf kind r i =
     pick (eqb kind 2) (str r)
@@ -61,16 +61,16 @@ items (x ∷ xs) = consItem (fieldOf x) (λ u. items xs)
 unfoldable pub itemsAt : ℕ → List Item
 itemsAt pc = items (drop pc packedTable)
 
--- ---- a run, and the runs of a layout up to its end
+-- ---- a group, and the groups of a layout up to its end
 unfoldable pub groupOf : (kind : ℕ) → Slot → List Item → Group
 groupOf kind i is = pick (eqb kind 2) (opt i is) (pick (eqb kind 3) (many i is) (once is))
 
-unfoldable pub consRun : Run → (Unit {0} → List Group) → List Group
-consRun r rest = unlessEnd (eqb (r .kind) 0) (groupOf (r .kind) (slotOf (r .slot)) (itemsAt (r .start))) rest
+unfoldable pub consGroup : PackedGroup → (Unit {0} → List Group) → List Group
+consGroup r rest = unlessEnd (eqb (r .kind) 0) (groupOf (r .kind) (slotOf (r .slot)) (itemsAt (r .start))) rest
 
 unfoldable pub groupsIn : List ℕ → List Group
 groupsIn [] = []
-groupsIn (x ∷ xs) = consRun (runOf x) (λ u. groupsIn xs)
+groupsIn (x ∷ xs) = consGroup (packedGroup x) (λ u. groupsIn xs)
 
 unfoldable pub groupsAt : ℕ → List Group
 groupsAt i = groupsIn (drop i packedTable)

@@ -1,5 +1,5 @@
-// What a layout's table holds: the types of a field, a run of fields and the row of an operation, and the numbers that they are told by. The packed tables
-// themselves are definitions here; `packed`, `operations` and `kinds` have them as code.
+// What a layout's table holds: the types of a field, a group of fields and the row of an operation, and the numbers that they are told by. The packed tables
+// themselves are definitions here; `table_code` and `table_operations` have them as code.
 pub mod kinds;
 pub mod places;
 
@@ -7,6 +7,7 @@ pub use places::EMPTY_FIELDS;
 pub use places::ERROR_BLOCK;
 pub use places::FEATURES_CLIENT;
 pub use places::FEATURES_DAEMON;
+pub use places::FRAMED_DATA;
 pub use places::HELLO_CLIENT;
 pub use places::HELLO_DAEMON;
 pub use places::INFO;
@@ -20,7 +21,7 @@ pub use places::START_ACTIVITY;
 pub use places::STRING_MESSAGE;
 pub use places::STRING_SET;
 
-// A field: its kind (0 ends a run), what becomes of its strings, where its number goes, and whether a version decides that it is there, and which.
+// A field: its kind (0 ends a group), what becomes of its strings, where its number goes, and whether a version decides that it is there, and which.
 pub struct Field {
     pub kind: u8,
     pub role: u8,
@@ -29,14 +30,14 @@ pub struct Field {
     pub minor: u8,
 }
 
-// A run of fields: its kind (0 ends a layout), where its flag or count goes, and the place of its first field.
-pub struct Run {
+// A group of fields: its kind (0 ends a layout), where its flag or count goes, and the place of its first field.
+pub struct PackedGroup {
     pub kind: u8,
     pub slot: u8,
     pub start: usize,
 }
 
-// An operation: its number, the runs of its arguments, of those that are skipped and of its reply, and the kinds of the three answers.
+// An operation: its number, the groups of its arguments, of those that are skipped and of its reply, and the kinds of the three answers.
 pub struct Row {
     pub number: u64,
     pub arguments: u8,
@@ -52,7 +53,7 @@ pub enum Found {
     Unknown,
 }
 
-// Kinds of fields. The first ends a run of them.
+// Kinds of fields. The first ends a group of them.
 pub const END: u8 = 0;
 
 pub const NUM: u8 = 1;
@@ -69,7 +70,7 @@ pub const MAYBE: u8 = 6;
 
 pub const TYPED: u8 = 7;
 
-// Kinds of runs; 0 ends a layout.
+// Kinds of groups; 0 ends a layout.
 pub const ONCE: u8 = 1;
 
 pub const OPT: u8 = 2;

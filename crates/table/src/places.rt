@@ -1,7 +1,7 @@
-// Made by ./tables from crates/layouts/specs and crates/table/specs/Claims.antt: where the runs of each layout begin.
+// Made by ./tables from crates/layouts/specs and crates/table/specs/Claims.antt: where the groups of each layout begin.
 
 // How many numbers there are. Past its end the table reads as 0, so this is also a place without fields.
-pub const SIZE: usize = 279;
+pub const SIZE: usize = 281;
 
 // ---- the layouts outside of the table of operations
 
@@ -40,6 +40,9 @@ pub const INFO: u8 = 94;
 
 // S*
 pub const STRING_SET: u8 = 4;
+
+// F
+pub const FRAMED_DATA: u8 = 96;
 
 // nothing
 pub const NOTHING: u8 = 1;

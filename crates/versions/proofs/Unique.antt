@@ -5,24 +5,24 @@ use contract.Lifetimes.{Lfts}
 use borrow.Fn.Kinds.{PK, RK, Out, Dens, resT, endedOf}
 use denote.Triple.Clauses.{AtExit}
 use Rattle.layouts.specs.Primitive.{Version}
-use Rattle.versions.specs.declared.handshake.ProtocolVersion.{ProtocolVersion}
+use Rattle.versions.specs.declared.ProtocolVersion.{ProtocolVersion}
 use Rattle.versions.specs.Handshake.{versionOf}
-use Rattle.versions.proofs.handshake.ProtocolVersion.new.Reads as new
-use Rattle.versions.proofs.handshake.ProtocolVersion.new.Kinds as new-kinds
-use Rattle.versions.proofs.handshake.ProtocolVersion.from_wire.Reads as from-wire
-use Rattle.versions.proofs.handshake.ProtocolVersion.from_wire.Kinds as from-wire-kinds
-use Rattle.versions.proofs.handshake.ProtocolVersion.to_wire.Reads as to-wire
-use Rattle.versions.proofs.handshake.ProtocolVersion.to_wire.Kinds as to-wire-kinds
-use Rattle.versions.proofs.handshake.ProtocolVersion.at_least.Reads as at-least
-use Rattle.versions.proofs.handshake.ProtocolVersion.at_least.Kinds as at-least-kinds
-use Rattle.versions.proofs.handshake.ProtocolVersion.has_features.Reads as has-features
-use Rattle.versions.proofs.handshake.ProtocolVersion.has_features.Kinds as has-features-kinds
-use Rattle.versions.proofs.handshake.ProtocolVersion.has_cpu_affinity.Reads as has-cpu-affinity
-use Rattle.versions.proofs.handshake.ProtocolVersion.has_cpu_affinity.Kinds as has-cpu-affinity-kinds
-use Rattle.versions.proofs.handshake.ProtocolVersion.has_reserve_space.Reads as has-reserve-space
-use Rattle.versions.proofs.handshake.ProtocolVersion.has_reserve_space.Kinds as has-reserve-space-kinds
-use Rattle.versions.proofs.handshake.ProtocolVersion.has_post_handshake_flush.Reads as has-post-handshake-flush
-use Rattle.versions.proofs.handshake.ProtocolVersion.has_post_handshake_flush.Kinds as has-post-handshake-flush-kinds
+use Rattle.versions.proofs.ProtocolVersion.new.Reads as new
+use Rattle.versions.proofs.ProtocolVersion.new.Kinds as new-kinds
+use Rattle.versions.proofs.ProtocolVersion.from_wire.Reads as from-wire
+use Rattle.versions.proofs.ProtocolVersion.from_wire.Kinds as from-wire-kinds
+use Rattle.versions.proofs.ProtocolVersion.to_wire.Reads as to-wire
+use Rattle.versions.proofs.ProtocolVersion.to_wire.Kinds as to-wire-kinds
+use Rattle.versions.proofs.ProtocolVersion.at_least.Reads as at-least
+use Rattle.versions.proofs.ProtocolVersion.at_least.Kinds as at-least-kinds
+use Rattle.versions.proofs.ProtocolVersion.has_features.Reads as has-features
+use Rattle.versions.proofs.ProtocolVersion.has_features.Kinds as has-features-kinds
+use Rattle.versions.proofs.ProtocolVersion.has_cpu_affinity.Reads as has-cpu-affinity
+use Rattle.versions.proofs.ProtocolVersion.has_cpu_affinity.Kinds as has-cpu-affinity-kinds
+use Rattle.versions.proofs.ProtocolVersion.has_reserve_space.Reads as has-reserve-space
+use Rattle.versions.proofs.ProtocolVersion.has_reserve_space.Kinds as has-reserve-space-kinds
+use Rattle.versions.proofs.ProtocolVersion.has_post_handshake_flush.Reads as has-post-handshake-flush
+use Rattle.versions.proofs.ProtocolVersion.has_post_handshake_flush.Kinds as has-post-handshake-flush-kinds
 
 -- two answers to the same arguments; no function here has a reference, so that no lifetime and no exit matters
 abbrev pub Determined : (ps : List (PK 0)) (k : RK 0) → Out 0 ps k → Type 0

@@ -5,7 +5,7 @@ use native.Mathlib.Omega.{arith}
 use borrow.Author.Tests.{eq-eqb, ne-eqb}
 use lib.Dec.{leb, ltb}
 use Rattle.layouts.specs.Primitive.{Version, version, fromWire, atLeast}
-use Rattle.versions.specs.declared.handshake.ProtocolVersion.{ProtocolVersion}
+use Rattle.versions.specs.declared.ProtocolVersion.{ProtocolVersion}
 use Rattle.versions.specs.Handshake.{versionOf}
 
 module _ (v w : Version) where

@@ -1,61 +1,49 @@
--- A view by the tests that the code makes, what its fault says of it, and the comparison with the store's directory.
+-- A view by the place of its entry, and the comparison with the store's directory.
 use Prim.Native.Nat.{ℕ, suc, _+_, _-_, _≤_, _<_}
-use mathlib.Core.Path.{_≡_, refl, _∙_}
+use mathlib.Core.Path.{_≡_, refl, ap, _∙_}
 use mathlib.Core.List.{List, []}
 use mathlib.Core.Bool.{Bool, true, false, _&&_}
 use native.Mathlib.Omega.{arith}
 use native.Mathlib.Numerals.{add-one}
 use native.Mathlib.Nat.{add-sub-cancel-left}
-use native.Mathlib.Decide.{decLt, decLe}
-use borrow.Author.Tests.{le-ltb, lt-ltb, le-leb, lt-leb, eq-eqb, ne-eqb}
+use borrow.Author.Tests.{le-leb, lt-leb, eq-eqb, ne-eqb}
 use lib.Dec.{eqb}
 use lib.ListN.{length, getD, take, drop, drop-of-length-le}
 use lib.Seq.{drop-cons, getD-take, length-take-le}
 use Rattle.text.specs.Prefix.{isText}
-use Rattle.layouts.specs.Primitive.{noSuchEntry, badEntry, Result, ok, refused, same}
+use Rattle.layouts.specs.Primitive.{ok, same}
 use Rattle.layouts.specs.declared.Refusal.{Refusal}
 use Rattle.layouts.specs.Refusal.{refusedBy}
-use Rattle.layouts.specs.Writers.{slotsOf, entryStart, entryLength, viewOf, partOf, storeDirectory, isStorePath}
+use Rattle.layouts.specs.Writers.{viewOf, partOf, storeDirectory, isStorePath}
+use Rattle.entries.specs.declared.Located.{Located}
+use Rattle.entries.specs.declared.Located.the-variants.{Part, Refused}
+use Rattle.entries.specs.Entries.{numbersIn, placeOf, found}
+use Rattle.entries.proofs.Numbers.{with-words}
+use Rattle.entries.proofs.Places.{inside, refused-view}
 use Rattle.views.specs.Fault.{faultOf}
 
-module _ (bytes es : List ℕ) (i : ℕ) where
-  pub no-such : slotsOf es ≤ i → viewOf bytes es i ≡ refused noSuchEntry i 0
-  unfolding viewOf
-  no-such h = simp (le-ltb _ _ h)
+module _ (bytes : List ℕ) (i : ℕ) (f : Located) where
+  module _ (words : List ℕ) (e : found f ≡ placeOf bytes (numbersIn words []) i) where
+    known : found f ≡ placeOf bytes words i
+    known = e ∙ ap (λ (es : List ℕ). placeOf bytes es i) (with-words words)
 
-  module _ (h : i < slotsOf es) where
-    pub bad : length bytes < entryStart es i + entryLength es i → viewOf bytes es i ≡ refused badEntry i 0
-    unfolding viewOf
-    bad g = simp (lt-ltb _ _ h, lt-leb _ _ g)
+    pub no-fault : (start len : ℕ) → f ≡ Part start len → ok tt ≡ faultOf (viewOf bytes words i)
+    no-fault start len q = rw (inside bytes words i f known start len q .view)
 
-    pub good : entryStart es i + entryLength es i ≤ length bytes → viewOf bytes es i ≡ ok (take (entryLength es i) (drop (entryStart es i) bytes))
-    unfolding viewOf
-    good g = simp (lt-ltb _ _ h, le-leb _ _ g)
+    pub fault : (x : Refusal) → f ≡ Refused x → refusedBy x ≡ faultOf (viewOf bytes words i)
+    fault x q = rw (refused-view bytes words i f known x q)
 
-  -- a view with no fault lies inside
-  pub record Inside : Type 0 where
-    pub slot : i < slotsOf es
-    pub within : entryStart es i + entryLength es i ≤ length bytes
+  module _ (es : List ℕ) (e : found f ≡ placeOf bytes es i) where
+    -- the part from its start to its end
+    pub part : (start len : ℕ) → f ≡ Part start len → take (start + len - start) (drop start bytes) ≡ partOf (viewOf bytes es i)
+    part start len q = rw (add-sub-cancel-left, inside bytes es i f e start len q .view)
 
-  pub inside : ok tt ≡ faultOf (viewOf bytes es i) → Inside
-  inside e = go (decLt i (slotsOf es)) (decLe (entryStart es i + entryLength es i) (length bytes))
-    where
-      go : Dec (i < slotsOf es) → Dec (entryStart es i + entryLength es i ≤ length bytes) → Inside
-      go (yes h) (yes g) = record { slot = h; within = g }
-      go (yes h) (no g) = let b = bad h (omega arith) in let z : _≡_ {A = ℕ} 0 1 = cc in absurd (omega arith)
-      go (no h) g = let b = no-such (omega arith) in let z : _≡_ {A = ℕ} 0 1 = cc in absurd (omega arith)
+    -- a refused one is the empty part
+    pub empty : (x : Refusal) → f ≡ Refused x → [] ≡ partOf (viewOf bytes es i)
+    empty x q = rw (refused-view bytes es i f e x q)
 
-  -- and it is the part from its start to its end
-  pub part : Inside → take (entryStart es i + entryLength es i - entryStart es i) (drop (entryStart es i) bytes) ≡ partOf (viewOf bytes es i)
-  part w = rw (add-sub-cancel-left, good (w .slot) (w .within))
-
-  -- a refused one is the empty part
-  pub empty : (x : Refusal) → refusedBy x ≡ faultOf (viewOf bytes es i) → partOf (viewOf bytes es i) ≡ []
-  empty x e = go (viewOf bytes es i) e
-    where
-      go : (o : Result (List ℕ)) → refusedBy x ≡ faultOf o → partOf o ≡ []
-      go (ok part) e = let z : _≡_ {A = ℕ} 0 1 = cc in absurd (omega arith)
-      go (refused w p stream) e = refl
+pub part-of-words : (bytes words part : List ℕ) (i : ℕ) → part ≡ partOf (viewOf bytes (numbersIn words []) i) → part ≡ partOf (viewOf bytes words i)
+part-of-words bytes words part i e = e ∙ ap (λ (es : List ℕ). partOf (viewOf bytes es i)) (with-words words)
 
 -- ---- a list's beginning compared with another list, element by element
 module _ (b s : List ℕ) where

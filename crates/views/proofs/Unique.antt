@@ -14,6 +14,8 @@ use Rattle.views.proofs.entry.Reads as entry
 use Rattle.views.proofs.entry.Kinds as entry-kinds
 use Rattle.views.proofs.entry_fault.Reads as entry-fault
 use Rattle.views.proofs.entry_fault.Kinds as entry-fault-kinds
+use Rattle.views.proofs.part.Reads as part
+use Rattle.views.proofs.part.Kinds as part-kinds
 use Rattle.views.proofs.feature.Reads as feature
 use Rattle.views.proofs.feature.Kinds as feature-kinds
 use Rattle.views.proofs.feature_fault.Reads as feature-fault
@@ -37,6 +39,9 @@ told-by (Refused r) = refl
 
 pub fault-unique : (r r' : Fault) → meaning r ≡ meaning r' → r ≡ r'
 fault-unique r r' e = sym (told-by r) ∙ ap toldBy e ∙ told-by r'
+
+pub part-determined : Determined 3 part-kinds.ps part-kinds.r part.Post (λ κs r. r .now)
+part-determined κs a r r' x x' p q = p ∙ sym q
 
 pub entry-determined : Determined 2 entry-kinds.ps entry-kinds.r entry.Post (λ κs r. r .now)
 entry-determined κs a r r' x x' p q = p ∙ sym q

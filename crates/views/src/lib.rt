@@ -1,11 +1,12 @@
 // Views: string number i as a part of the caller's bytes, a handshake's feature as a part of the client's or the daemon's, and the store path test.
-// An entry is two numbers, start and length, and may hold any: the tests come before every sum.
 ghost use Prim.Native.Nat.{_≤_};
 ghost use mathlib.Core.Path.{_≡_};
 ghost use lib.ListN.{length, take};
 ghost use Rattle.layouts.specs.Primitive.{same};
 ghost use Rattle.layouts.specs.Writers.{viewOf, featureOf, partOf, storeDirectory, isStorePath};
+ghost use Rattle.entries.specs.Entries.{numbersIn};
 ghost use Rattle.views.specs.Fault.{meaning, faultOf};
+use entries::Located;
 use layouts::Refusal;
 
 const DIRECTORY_LENGTH: usize = 11;
@@ -22,35 +23,32 @@ pub enum Fault {
 pub fn entry_fault(bytes: &[u8], entries: &[u64], i: usize) -> Fault
     ensures { λ r. ⌜ meaning r ≡ faultOf (viewOf (now (bytes .entry)) (now (entries .entry)) i) ⌝ }
 {
-    if entries.len() / 2 <= i {
-        return Fault::Refused(layouts::refuse(layouts::NO_SUCH_ENTRY, i));
+    let none: [u8; 0] = [];
+    match entries::find(bytes, entries, &none, i) {
+        Located::Part { start: _, len: _ } => Fault::None,
+        Located::Refused(r) => Fault::Refused(r),
     }
-    let start = entries[2 * i];
-    let len = entries[2 * i + 1];
-    let n = bytes.len() as u64;
-    if n < start {
-        return Fault::Refused(layouts::refuse(layouts::BAD_ENTRY, i));
+}
+
+// String number i of s, with entries in either form, and the empty part at the start where it is refused.
+pub fn part<'a, 'b, 'c>(s: &'a [u8], words: &'b [u64], bytes: &'c [u8], i: usize) -> &'a [u8]
+    ensures { λ r. ⌜ now r ≡ partOf (viewOf (now (s .entry)) (numbersIn (now (words .entry)) (now (bytes .entry))) i) ⌝ }
+{
+    match entries::find(s, words, bytes, i) {
+        Located::Part { start, len } => {
+            let end = start + len;
+            &s[start..end]
+        }
+        Located::Refused(_) => &s[..0],
     }
-    if n - start < len {
-        return Fault::Refused(layouts::refuse(layouts::BAD_ENTRY, i));
-    }
-    Fault::None
 }
 
 // String number i, and the empty part at the start where it is refused.
 pub fn entry<'a, 'b>(bytes: &'a [u8], entries: &'b [u64], i: usize) -> &'a [u8]
     ensures { λ r. ⌜ now r ≡ partOf (viewOf (now (bytes .entry)) (now (entries .entry)) i) ⌝ }
 {
-    match entry_fault(bytes, entries, i) {
-        Fault::None => {
-            let start = entries[2 * i];
-            let len = entries[2 * i + 1];
-            let a = start as usize;
-            let e = (start + len) as usize;
-            &bytes[a..e]
-        }
-        Fault::Refused(_) => &bytes[..0],
-    }
+    let none: [u8; 0] = [];
+    part(bytes, entries, &none, i)
 }
 
 // Why there is no feature number i on that side, if so.

@@ -13,8 +13,8 @@ use Rattle.layouts.specs.Record.{blank, withNumber, noted}
 use Rattle.layouts.specs.Judge.{judgeOf}
 use Rattle.layouts.specs.Calls.{peekNumber, readNumber, readU32}
 use Rattle.layouts.proofs.Steps.{ask-short, ask-value}
-use Rattle.number.specs.declared.Number.{Number}
-use Rattle.number.specs.declared.Number.the-variants.{Value, Short}
+use Rattle.numbers.specs.declared.Number.{Number}
+use Rattle.numbers.specs.declared.Number.the-variants.{Value, Short}
 use Rattle.pieces.specs.Pieces.{numRead, wordAt}
 use Rattle.pieces.proofs.Fields.{field-number}
 use Rattle.pieces.proofs.Numbers.{word-known, word-short, number-known, number-short}

@@ -35,6 +35,8 @@ use Rattle.wire.proofs.Cursor.skip_string.Reads as skip-string
 use Rattle.wire.proofs.Cursor.skip_string.Kinds as skip-string-kinds
 use Rattle.wire.proofs.Cursor.read_string_set.Reads as read-string-set
 use Rattle.wire.proofs.Cursor.read_string_set.Kinds as read-string-set-kinds
+use Rattle.wire.proofs.Cursor.read_string_set_bytes.Reads as read-string-set-bytes
+use Rattle.wire.proofs.Cursor.read_string_set_bytes.Kinds as read-string-set-bytes-kinds
 use Rattle.wire.proofs.Cursor.skip_string_set.Reads as skip-string-set
 use Rattle.wire.proofs.Cursor.skip_string_set.Kinds as skip-string-set-kinds
 use Rattle.wire.proofs.Cursor.read_framed.Reads as read-framed
@@ -128,6 +130,10 @@ skip-string-unique κs a r r′ x x′ p q = skipped-told r r′ p q
 pub read-string-set-unique : (κs : Lfts 2) (a : Dens κs read-string-set-kinds.ps) (r r′ : Read) (x x′ : AtExit (endedOf 2 read-string-set-kinds.ps read-string-set-kinds.r) κs)
     → read-string-set.Post κs a r x → read-string-set.Post κs a r′ x′ → (r ≡ r′) × (now (x .1 .1 .0) ≡ now (x′ .1 .1 .0))
 read-string-set-unique κs a r r′ x x′ p q = (count-told r r′ (p .0) (q .0), p .1 ∙ sym (q .1))
+
+pub read-string-set-bytes-unique : (κs : Lfts 2) (a : Dens κs read-string-set-bytes-kinds.ps) (r r′ : Read) (x x′ : AtExit (endedOf 2 read-string-set-bytes-kinds.ps read-string-set-bytes-kinds.r) κs)
+    → read-string-set-bytes.Post κs a r x → read-string-set-bytes.Post κs a r′ x′ → (r ≡ r′) × (now (x .1 .1 .0) ≡ now (x′ .1 .1 .0))
+read-string-set-bytes-unique κs a r r′ x x′ p q = (count-told r r′ (p .0) (q .0), p .1 ∙ sym (q .1))
 
 pub skip-string-set-unique : (κs : Lfts 1) (a : Dens κs skip-string-set-kinds.ps) (r r′ : Read) (x x′ : AtExit (endedOf 1 skip-string-set-kinds.ps skip-string-set-kinds.r) κs)
     → skip-string-set.Post κs a r x → skip-string-set.Post κs a r′ x′ → r ≡ r′

@@ -1,20 +1,16 @@
 // The readers of nix-wire's wire_async.rs, under its names and in its order. A cursor by value stands for the place in the stream: each method
 // answers what it read with the next cursor, or the refusal with its place. A cursor past the end is refused like any stream that is cut short.
 ghost use mathlib.Core.Path.{_≡_};
-ghost use Prim.Native.Nat.{_/_};
 ghost use lib.ListN.{length};
-ghost use Rattle.layouts.specs.Shape.{asCount, kept, set, framed};
-ghost use Rattle.layouts.specs.Pieces.{run};
-ghost use Rattle.layouts.specs.Judge.{entriesOf, payloadOf, lentAfter};
-ghost use Rattle.layouts.specs.Calls.{field, readNumber, readU32, peekNumber, skipString, readStringSet, skipStringSet, readFramed, skipFramed};
-ghost use Rattle.wire.specs.Answers.{numberRead, countRead, totalRead, peeked, spanned, skippedTo, readBytes, readText};
+ghost use Rattle.layouts.specs.Judge.{lentAfter};
+ghost use Rattle.layouts.specs.Calls.{readNumber, readU32, peekNumber, skipString, readStringSet, skipStringSet, readFramed, skipFramed};
+ghost use Rattle.wire.specs.Answers.{numberRead, countRead, totalRead, peeked, spanned, skippedTo, readBytes, readText, framedPayload, setFilled, setRead, setReadBytes};
 ghost use Rattle.pieces.specs.Pieces.{stringAt};
-ghost use Rattle.runs.specs.Runs.{totalOf};
 use layouts::Refusal;
-use number::Number;
-use pieces::Judged;
-use runs::Passed;
-use runs::Total;
+use numbers::Number;
+use pieces::Verdict;
+use walk_strings::Passed;
+use walk_take::Series;
 
 pub struct Cursor {
     pub at: usize,
@@ -51,25 +47,77 @@ fn string_at(s: &[u8], at: usize, decoded: bool) -> Spanned
     ensures { λ r. ⌜ spanned r ≡ stringAt (now (s .entry)) decoded at ⌝ }
 {
     match pieces::string_at(s, at, decoded) {
-        Judged::Fine { start, len, next } => Spanned::Contents {
+        Verdict::Fine { start, len, next } => Spanned::Contents {
             start,
             len,
             next: Cursor { at: next },
         },
-        Judged::Refused(r) => Spanned::Refused(r),
+        Verdict::Refused(r) => Spanned::Refused(r),
     }
 }
 
-// Framed data, with the cursor after it.
-fn after_frames(t: Total) -> Read
-    ensures { λ r. ⌜ totalRead r ≡ totalOf t ⌝ }
+// A set's count and its strings, with so many slots for entries.
+fn judge_set(s: &[u8], at: usize, slots: usize) -> Read
+    ensures { λ r. ⌜ countRead r ≡ readStringSet (now (s .entry)) at slots ⌝ }
 {
-    match t {
-        Total::Bytes { total, next } => Read::Value {
-            value: total,
+    match pieces::number_at(s, at) {
+        Number::Short => Read::Refused(layouts::refuse(layouts::CUT_SHORT, at)),
+        Number::Value(kept) => {
+            let first = at + 8;
+            let mut window = [0u64; 16];
+            match walk_take::judge_series(
+                s,
+                first,
+                table::KEPT,
+                0,
+                0,
+                kept,
+                slots,
+                0,
+                &mut window,
+            ) {
+                Series::Refused(r) => Read::Refused(r),
+                Series::Past {
+                    at: next,
+                    entries: _,
+                } => Read::Value {
+                    value: kept,
+                    next: Cursor { at: next },
+                },
+            }
+        }
+    }
+}
+
+// A set, with entries as numbers or as bytes: the other room is lent empty. All is judged before entries are written: a refusal changes nothing.
+fn read_set(s: &[u8], at: usize, words: &mut [u64], bytes: &mut [u8]) -> Read
+    ensures answer { λ r. ⌜ countRead r ≡ setFilled (now (s .entry)) at (now (words .entry)) (now (bytes .entry)) .answer ⌝ }
+    ensures words { λ r. ⌜ now (words .exit) ≡ setFilled (now (s .entry)) at (now (words .entry)) (now (bytes .entry)) .words ⌝ }
+    ensures bytes { λ r. ⌜ now (bytes .exit) ≡ setFilled (now (s .entry)) at (now (words .entry)) (now (bytes .entry)) .bytes ⌝ }
+{
+    match judge_set(s, at, entries::slots(words, bytes)) {
+        Read::Refused(r) => Read::Refused(r),
+        Read::Value { value, next } => {
+            let layout = walk_items::layout(0, 0, table::STRING_SET);
+            walk_fill::fill_entries(s, at, layout, words, 0, bytes, 0);
+            Read::Value { value, next }
+        }
+    }
+}
+
+// The chunks up to the empty one, and their total, with so much room for payload.
+fn judge_framed(s: &[u8], at: usize, room: usize) -> Read
+    ensures { λ r. ⌜ totalRead r ≡ readFramed (now (s .entry)) at room ⌝ }
+{
+    match walk_take::judge_frames(s, at, room, 0) {
+        Series::Refused(r) => Read::Refused(r),
+        Series::Past {
+            at: next,
+            entries: total,
+        } => Read::Value {
+            value: total as u64,
             next: Cursor { at: next },
         },
-        Total::Refused(r) => Read::Refused(r),
     }
 }
 
@@ -139,25 +187,22 @@ impl Cursor {
         }
     }
 
-    // All is judged before entries are written: a refusal changes nothing.
+    // Answers the count; start and length of each string stand in the room.
     pub fn read_string_set(self, s: &[u8], entries: &mut [u64]) -> Read
-        ensures answer { λ r. ⌜ countRead r ≡ readStringSet (now (s .entry)) (self .at) (length (now (entries .entry)) / 2) ⌝ }
-        ensures room { λ r. ⌜ now (entries .exit) ≡ lentAfter (readStringSet (now (s .entry)) (self .at) (length (now (entries .entry)) / 2)) (entriesOf (run (field (set kept (asCount 0))) (now (s .entry)) (self .at))) (now (entries .entry)) ⌝ }
+        ensures answer { λ r. ⌜ countRead r ≡ setRead (now (s .entry)) (self .at) (now (entries .entry)) .answer ⌝ }
+        ensures room { λ r. ⌜ now (entries .exit) ≡ setRead (now (s .entry)) (self .at) (now (entries .entry)) .entries ⌝ }
     {
-        let at = self.at;
-        match pieces::number_at(s, at) {
-            Number::Short => Read::Refused(layouts::refuse(layouts::CUT_SHORT, at)),
-            Number::Value(kept) => {
-                let first = at + 8;
-                match runs::read_strings(s, first, kept, entries) {
-                    Passed::Refused(r) => Read::Refused(r),
-                    Passed::Past(next) => Read::Value {
-                        value: kept,
-                        next: Cursor { at: next },
-                    },
-                }
-            }
-        }
+        let mut none: [u8; 0] = [];
+        read_set(s, self.at, entries, &mut none)
+    }
+
+    // The same with entries of sixteen bytes.
+    pub fn read_string_set_bytes(self, s: &[u8], entries: &mut [u8]) -> Read
+        ensures answer { λ r. ⌜ countRead r ≡ setReadBytes (now (s .entry)) (self .at) (now (entries .entry)) .answer ⌝ }
+        ensures room { λ r. ⌜ now (entries .exit) ≡ setReadBytes (now (s .entry)) (self .at) (now (entries .entry)) .entries ⌝ }
+    {
+        let mut none: [u64; 0] = [];
+        read_set(s, self.at, &mut none, entries)
     }
 
     // Answers the count.
@@ -169,9 +214,9 @@ impl Cursor {
             Number::Short => Read::Refused(layouts::refuse(layouts::CUT_SHORT, at)),
             Number::Value(count) => {
                 let first = at + 8;
-                match strings::pass(s, first, 0, 0, count) {
-                    strings::Passed::Refused(r) => Read::Refused(r),
-                    strings::Passed::Past(next) => Read::Value {
+                match walk_strings::pass(s, first, 0, 0, count) {
+                    Passed::Refused(r) => Read::Refused(r),
+                    Passed::Past(next) => Read::Value {
                         value: count,
                         next: Cursor { at: next },
                     },
@@ -180,20 +225,26 @@ impl Cursor {
         }
     }
 
-    // Answers the payload's length; the chunks, joined, stand in the room.
+    // Answers the payload's length; the chunks, joined, stand in the room. All is judged before anything is written.
     pub fn read_framed(self, s: &[u8], out: &mut [u8]) -> Read
         ensures answer { λ r. ⌜ totalRead r ≡ readFramed (now (s .entry)) (self .at) (length (now (out .entry))) ⌝ }
-        ensures room { λ r. ⌜ now (out .exit) ≡ lentAfter (readFramed (now (s .entry)) (self .at) (length (now (out .entry)))) (payloadOf (now (s .entry)) (run (field framed) (now (s .entry)) (self .at))) (now (out .entry)) ⌝ }
+        ensures room { λ r. ⌜ now (out .exit) ≡ lentAfter (readFramed (now (s .entry)) (self .at) (length (now (out .entry)))) (framedPayload (now (s .entry)) (self .at)) (now (out .entry)) ⌝ }
     {
-        let total = runs::read_frames(s, self.at, out);
-        after_frames(total)
+        let at = self.at;
+        match judge_framed(s, at, out.len()) {
+            Read::Refused(r) => Read::Refused(r),
+            Read::Value { value, next } => {
+                let layout = walk_items::layout(0, 0, table::FRAMED_DATA);
+                walk_fill::fill_payload(s, at, layout, out);
+                Read::Value { value, next }
+            }
+        }
     }
 
     // Answers the payload's length. The stream itself is room enough for all its chunks.
     pub fn skip_framed(self, s: &[u8]) -> Read
         ensures { λ r. ⌜ numberRead r ≡ skipFramed (now (s .entry)) (self .at) ⌝ }
     {
-        let total = runs::frames_at(s, self.at, s.len());
-        after_frames(total)
+        judge_framed(s, self.at, s.len())
     }
 }

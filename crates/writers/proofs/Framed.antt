@@ -10,8 +10,8 @@ use Rattle.layouts.specs.Primitive.{numberBytes}
 use Rattle.layouts.specs.Writers.{chunksBytes, framedBytes}
 use Rattle.layouts.proofs.Little.{length-number}
 use Rattle.writers.specs.Framed.{framedLength}
-use Rattle.output.specs.Placed.{placed}
-use Rattle.output.proofs.Laws.{Filling, filling-turn, filling-room}
+use Rattle.writers_output.specs.Placed.{placed}
+use Rattle.writers_output.proofs.Laws.{Filling, filling-turn, filling-room}
 
 -- any bound that is large enough will do
 chunks-same : (f g : ℕ) (c : List ℕ) → length c ≤ f → length c ≤ g → chunksBytes f c ≡ chunksBytes g c

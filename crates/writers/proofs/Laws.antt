@@ -12,10 +12,10 @@ use Rattle.layouts.specs.Refusal.{plain, refusedBy}
 use Rattle.layouts.specs.Judge.{lentAfter}
 use Rattle.layouts.specs.Writers.{writing, stringBytes, writeString}
 use Rattle.layouts.proofs.Little.{length-little}
-use Rattle.number_out.specs.Stored.{wrote, stored}
-use Rattle.output.specs.Answer.{afterWriting}
+use Rattle.numbers.specs.Stored.{wrote, stored}
+use Rattle.writers_output.specs.Answer.{afterWriting}
 
--- a number of k bytes, by what `number_out` says
+-- a number of k bytes, by what `numbers` says
 module _ (k x : ℕ) (lent lent' : List ℕ) (b : Bool) (e : b ≡ wrote k lent) (f : lent' ≡ stored k x lent) where
   pub little-done : b ≡ true → (ok k ≡ writing (littleEnd k x) lent) × (lent' ≡ afterWriting (littleEnd k x) lent)
   unfolding writing

@@ -4,8 +4,8 @@ use contract.Lifetimes.{Lfts}
 use borrow.Fn.Kinds.{Dens, endedOf}
 use denote.Triple.Clauses.{AtExit}
 use denote.Ref.{now}
-use Rattle.output.specs.declared.Written.{Written}
-use Rattle.output.proofs.Unique.{once}
+use Rattle.writers_output.specs.declared.Written.{Written}
+use Rattle.writers_output.proofs.Unique.{once}
 use Rattle.writers.proofs.write_u64.Reads as write-u64
 use Rattle.writers.proofs.write_u64.Kinds as write-u64-kinds
 use Rattle.writers.proofs.write_u32.Reads as write-u32

@@ -6,20 +6,20 @@ ghost use lib.ListN.{length, take, drop};
 ghost use Rattle.layouts.specs.Primitive.{littleEnd, numberBytes};
 ghost use Rattle.layouts.specs.Judge.{lentAfter};
 ghost use Rattle.layouts.specs.Writers.{writing, stringBytes, framedBytes, writeString};
-ghost use Rattle.output.specs.Answer.{meaning, afterWriting};
-ghost use Rattle.output.specs.Placed.{placed};
+ghost use Rattle.writers_output.specs.Answer.{meaning, afterWriting};
+ghost use Rattle.writers_output.specs.Placed.{placed};
 ghost use Rattle.writers.specs.Framed.{framedLength};
-pub use output::Written;
-pub use sets::write_string_set;
-pub use texts::write_mode;
-pub use texts::write_overrides;
-pub use texts::write_paths;
+pub use writers_output::Written;
+pub use writers_sets::write_string_set;
+pub use writers_texts::write_mode;
+pub use writers_texts::write_overrides;
+pub use writers_texts::write_paths;
 
 pub fn write_u64(out: &mut [u8], x: u64) -> Written
     ensures answer { λ r. ⌜ meaning r ≡ writing (numberBytes x) (now (out .entry)) ⌝ }
     ensures lent { λ r. ⌜ now (out .exit) ≡ afterWriting (numberBytes x) (now (out .entry)) ⌝ }
 {
-    if number_out::write(out, x) {
+    if numbers::write(out, x) {
         return Written::Length(8);
     }
     Written::Refused(layouts::refuse(layouts::OUTPUT_FULL, 0))
@@ -29,7 +29,7 @@ pub fn write_u32(out: &mut [u8], x: u32) -> Written
     ensures answer { λ r. ⌜ meaning r ≡ writing (littleEnd 4 x) (now (out .entry)) ⌝ }
     ensures lent { λ r. ⌜ now (out .exit) ≡ afterWriting (littleEnd 4 x) (now (out .entry)) ⌝ }
 {
-    if number_out::write_four(out, x as u64) {
+    if numbers::write_four(out, x as u64) {
         return Written::Length(4);
     }
     Written::Refused(layouts::refuse(layouts::OUTPUT_FULL, 0))
@@ -39,11 +39,11 @@ pub fn write_bytes(out: &mut [u8], c: &[u8]) -> Written
     ensures answer { λ r. ⌜ meaning r ≡ writing (stringBytes (now (c .entry))) (now (out .entry)) ⌝ }
     ensures lent { λ r. ⌜ now (out .exit) ≡ afterWriting (stringBytes (now (c .entry))) (now (out .entry)) ⌝ }
 {
-    let n = output::string_length(c);
+    let n = writers_output::string_length(c);
     if out.len() < n {
         return Written::Refused(layouts::refuse(layouts::OUTPUT_FULL, 0));
     }
-    output::put_string(out, 0, c);
+    writers_output::put_string(out, 0, c);
     Written::Length(n)
 }
 
@@ -78,7 +78,7 @@ fn put_chunk(out: &mut [u8], at: usize, c: &[u8], from: usize, to: usize)
     requires { ⌜ (from ≤ to) × (to ≤ length (now c)) ⌝ }
     ensures { λ r. ⌜ now (out .exit) ≡ placed at (numberBytes (to - from) ++ take (to - from) (drop from (now (c .entry)))) (now (out .entry)) ⌝ }
 {
-    output::put_counted(out, at, &c[from..to]);
+    writers_output::put_counted(out, at, &c[from..to]);
 }
 
 fn put_framed(out: &mut [u8], c: &[u8])
@@ -94,7 +94,7 @@ fn put_framed(out: &mut [u8], c: &[u8])
         at = at + 8 + n;
         i = e;
     }
-    output::put_number(out, at, 0);
+    writers_output::put_number(out, at, 0);
 }
 
 pub fn write_framed(out: &mut [u8], c: &[u8]) -> Written

@@ -35,7 +35,7 @@
 //! # Ok::<(), lintelow::Refusal>(())
 //! ```
 //!
-//! [`wire`] has the pieces that streams are made of. The functions here and there allocate what they answer. Those of [`raw`] take lent room instead and answer with numbers and entries, as the library does.
+//! [`wire`] has the pieces that streams are made of. The functions here and there allocate what they answer. Those of [`raw`] take lent room instead and answer with numbers and entries, as the library does; [`with_room`] makes it for them.
 #[cfg(not(all(target_pointer_width = "64", target_endian = "little")))]
 compile_error!("Lintelow is for little-endian processors of 64 bits");
 
@@ -48,6 +48,6 @@ pub mod wire;
 pub use answer::{Answer, Entries, Entry, Refusal};
 pub use read::{
     parse_daemon_handshake, parse_handshake, read_daemon_result, read_op_args, read_stderr_loop, read_stderr_with_error, skip_daemon_result,
-    skip_op_args,
+    skip_op_args, with_room,
 };
 pub use types::{ErrorInfo, HandshakeInfo, OpCall, PathInfoResult, ResultData, SkippedArgs, StderrCode, StderrResult, Version};

@@ -76,8 +76,9 @@ pub fn parse_daemon_handshake(client: Version, daemon: &[u8]) -> Result<(Handsha
     })
 }
 
-/// Reads with little room first, and again with more while that is what the refusal asks for.
-pub(crate) fn with_room<T>(streamed: usize, read: impl Fn(&mut [u8], &mut [u8]) -> Result<T, Refusal>) -> Result<T, Refusal> {
+/// Reads with little room for entries and payload first, and again with more while that is what the refusal asks for. `streamed` is the length of what is
+/// read, which bounds the room.
+pub fn with_room<T>(streamed: usize, read: impl Fn(&mut [u8], &mut [u8]) -> Result<T, Refusal>) -> Result<T, Refusal> {
     // A kept string has a length of eight bytes in the stream, and a payload's bytes stand there too: more room than that is never asked for.
     let most_entries = streamed / 8 * ENTRY;
     let mut entries = vec![0; most_entries.min(64 * ENTRY)];

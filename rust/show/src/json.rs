@@ -4,7 +4,7 @@ use crate::hex;
 use crate::library::Payload;
 use crate::names;
 use crate::session::*;
-use crate::View;
+use crate::view::View;
 use lintelow::wire::mode_text;
 use lintelow::StderrCode;
 use std::fmt::Write as _;

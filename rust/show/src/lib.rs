@@ -11,6 +11,7 @@ mod recording;
 mod session;
 mod summary;
 mod text;
+mod view;
 mod words;
 
 use options::Command;
@@ -20,17 +21,12 @@ use std::env;
 use std::ffi::OsString;
 use std::io::{self, BufWriter, IsTerminal, Write};
 use summary::{Form, Summary};
+use view::View;
 use words::Words;
 
 pub use options::Options;
 pub use progress::Progress;
 pub use words::Style;
-
-/// How a session is told.
-pub(crate) trait View {
-    fn event(&mut self, event: &Event) -> io::Result<()>;
-    fn flush(&mut self) -> io::Result<()>;
-}
 
 /// How a session ended; the number is the exit status.
 #[derive(Debug, Clone, Copy, PartialEq, Eq)]

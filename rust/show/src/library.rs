@@ -2,12 +2,11 @@
 //!
 //! A reader that is lent no payload room refuses by 5 at the place where a payload begins. What stands before that place is read with an empty payload
 //! behind it, and the payload is passed over.
-use lintelow::{raw, wire, OpCall, Refusal, ResultData, Version};
+use lintelow::{raw, wire, with_room, OpCall, Refusal, ResultData, Version};
 
 /// How many of a payload's first bytes are kept.
 pub const SHOWN: usize = 16;
 
-const NO_ENTRY_ROOM: u64 = 4;
 const NO_PAYLOAD_ROOM: u64 = 5;
 
 /// Framed data: the chunks' bytes, joined.
@@ -41,32 +40,30 @@ fn apart<T>(
     judge: impl Fn(&mut [u8]) -> Result<usize, Refusal>,
     read: impl Fn(&[u8]) -> Result<(T, usize), Refusal>,
 ) -> Result<Read<T>, Refusal> {
-    match with_entries(stream.len(), judge) {
-        Ok(end) => {
+    // with_room makes payload room for a refusal by 5, so here that refusal is an answer.
+    let judged = with_room(stream.len(), |entries, _| match judge(entries) {
+        Ok(end) => Ok(Judged::EndsAt(end)),
+        Err(Refusal { number: NO_PAYLOAD_ROOM, place, .. }) => Ok(Judged::PayloadAt(place)),
+        Err(refusal) => Err(refusal),
+    });
+    match judged? {
+        Judged::EndsAt(end) => {
             let (value, end) = read(&stream[..end])?;
             Ok(Read { value, end, payload: Payload::default() })
         }
-        Err(Refusal { number: NO_PAYLOAD_ROOM, place, .. }) => {
+        Judged::PayloadAt(place) => {
             let (payload, end) = pass_payload(stream, place)?;
             let empty_payload = 0u64.to_le_bytes();
             let (value, _) = read(&[&stream[..place], &empty_payload].concat())?;
             Ok(Read { value, end, payload })
         }
-        Err(refusal) => Err(refusal),
     }
 }
 
-/// Calls with more and more room for entries, while that is what is asked for.
-fn with_entries<T>(streamed: usize, call: impl Fn(&mut [u8]) -> Result<T, Refusal>) -> Result<T, Refusal> {
-    // A kept string has a length of eight bytes in the stream.
-    let most = streamed / 8;
-    let mut slots = most.min(64);
-    loop {
-        match call(&mut vec![0; slots * raw::ENTRY]) {
-            Err(Refusal { number: NO_ENTRY_ROOM, .. }) if slots < most => slots = (4 * slots).min(most),
-            answer => return answer,
-        }
-    }
+/// What a reader without payload room finds.
+enum Judged {
+    EndsAt(usize),
+    PayloadAt(usize),
 }
 
 /// The payload that begins at a place, and where it ends.

@@ -2,8 +2,8 @@
 use crate::json::{self, Object};
 use crate::names;
 use crate::session::*;
+use crate::view::View;
 use crate::words::{Style, Words};
-use crate::View;
 use std::collections::BTreeMap;
 use std::io::{self, Write};
 

@@ -4,7 +4,7 @@ use crate::hex;
 use crate::names;
 use crate::session::*;
 use crate::text;
-use crate::View;
+use crate::view::View;
 use lintelow::wire::mode_text;
 use lintelow::{StderrCode, Version};
 use std::io::{self, Write};

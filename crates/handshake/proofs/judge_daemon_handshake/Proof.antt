@@ -3,13 +3,16 @@ use borrow.Author.Needs.{needs}
 use Rattle.handshake.proofs.judge_daemon_handshake.Statement.{statement}
 use Rattle.handshake.proofs.judge_daemon_handshake.Tie as tie
 use denote.Ref.{now}
+use mathlib.Core.Path.{_≡_}
 use mathlib.Core.List.{[]}
+use Prim.Native.Nat.{_+_, _*_}
 use Rattle.layouts.specs.Primitive.{version}
-use Rattle.versions.specs.Handshake.{versionOf}
-use Rattle.handshake.proofs.Whole.{daemon-left, daemon-told}
+use Rattle.table.specs.Table.{versionIn}
+use Rattle.handshake.proofs.Ways.{given-in}
+use Rattle.handshake.proofs.Whole.{daemon-left, given-version, daemon-told}
 
-returns : tie.Need-returns
-returns c = daemon-told (now (c .before .before .before .before .before .before .before .before .before .before .args .daemon)) (c .before .before .before .before .before .before .before .before .before .before .args .slots) (versionOf (c .before .before .before .before .before .negotiated .result)) (version (c .before .before .before .before .before .before .before .before .before .before .args .major) (c .before .before .before .before .before .before .before .before .before .before .args .minor)) (c .before .before .before .before .require-daemon-magic .result) (c .before .before .before .turn2 .result) (c .before .require-last .result) (daemon-left [] (now (c .before .before .before .before .before .before .before .before .before .before .args .daemon)) (c .before .before .before .before .before .before .before .before .before .before .args .slots) (versionOf (c .before .before .before .before .before .negotiated .result)) (c .before .before .before .before .before .before .before .before .nothing .result) (c .before .before .before .before .before .before .before .before .nothing .ensures) (version (c .before .before .before .before .before .before .before .before .before .before .args .major) (c .before .before .before .before .before .before .before .before .before .before .args .minor)) (c .before .before .before .before .before .before .before .turn .result) (c .before .before .before .before .require-daemon-magic .result) (c .before .before .before .turn2 .result) (c .before .before .turn3 .result) (c .before .require-last .result) (c .before .before .before .before .before .before .before .turn .ensures) (c .before .before .before .before .require-daemon-magic .ensures) (versionOf (c .before .before .before .before .before .before .server-version .result)) (c .before .before .before .before .before .negotiated .ensures) (c .before .before .before .before .before .before .server-version .ensures) (c .before .before .before .turn2 .ensures) (c .before .before .turn3 .ensures) (c .before .require-last .ensures)) (c .answer .result) (c .answer .ensures)
+given : (c : tie.After-round) → versionIn (256 * c .before .before .before .before .before .args .major + c .before .before .before .before .before .args .minor) ≡ version (c .before .before .before .before .before .args .major) (c .before .before .before .before .before .args .minor)
+given c = given-in (c .before .before .before .before .before .args .major) (c .before .before .before .before .before .args .minor) (search needs)
 
 pub judge-daemon-handshake-spec : {M : Type 1} → statement M
 judge-daemon-handshake-spec =
@@ -19,9 +22,16 @@ judge-daemon-handshake-spec =
     (λ c κs. search needs)
     (λ c κs. search needs)
     (λ c κs. search needs)
+    (λ c. search needs)
+    (λ c. search needs)
+    (λ c κs. search needs)
+    (λ c κs. search needs)
+    (λ c. search needs)
+    (λ c. search needs)
     (λ c κs. search needs)
     (λ c κs. search needs)
     (λ c κs. search needs)
     (λ c κs. search needs)
     (λ c κs. search needs)
-    returns)
+    (λ c κs. search needs)
+    (λ c. daemon-told (now (c .before .before .before .before .before .before .before .before .before .before .before .before .before .args .daemon)) (c .before .before .before .before .before .before .before .before .before .before .before .before .before .args .slots) (version (c .before .before .before .before .before .before .before .before .before .before .before .before .before .args .major) (c .before .before .before .before .before .before .before .before .before .before .before .before .before .args .minor)) (c .before .round3 .result) _ (daemon-left [] (now (c .before .before .before .before .before .before .before .before .before .before .before .before .before .args .daemon)) (c .before .before .before .before .before .before .before .before .before .before .before .before .before .args .slots) (versionIn (c .before .before .before .before .before .before .smaller .result)) (c .before .before .before .before .before .before .before .before .before .start .result) (c .before .before .before .before .before .before .before .before .before .start .ensures) (version (c .before .before .before .before .before .before .before .before .before .before .before .before .before .args .major) (c .before .before .before .before .before .before .before .before .before .before .before .before .before .args .minor)) (c .before .before .before .before .before .before .before .before .round .result) (c .before .before .before .before .before .require-number .result) (c .before .before .before .round2 .result) (c .before .round3 .result) (now (c .before .before .before .before .before .before .before .before .before .before .before .before .before .args .daemon)) (c .before .before .before .before .before .before .before .before .before .before .before .layout .result) (c .before .before .before .before .before .before .before .before .before .before .layout2 .result) (c .before .before .before .before .layout3 .result) (c .before .before .layout4 .result) (c .before .before .before .before .before .before .before .before .before .before .before .layout .ensures) (c .before .before .before .before .before .before .before .before .before .before .layout2 .ensures) (c .before .before .before .before .before .before .before .before .round .ensures) (given-version _ (c .before .before .before .before .before .before .before .version-in .result) (c .before .before .before .before .before .before .smaller .result) _ _ (c .before .before .before .before .before .before .smaller .ensures .0) (given (c .before .before .before .before .before .before .before .before)) (c .before .before .before .before .before .before .before .version-in .ensures)) (c .before .before .before .before .before .require-number .ensures) (c .before .before .before .before .layout3 .ensures) (c .before .before .before .round2 .ensures) (c .before .before .layout4 .ensures) (c .before .round3 .ensures)) (c .before .before .before .before .before .before .before .before .before .before .before .layout .result) (c .before .before .before .before .before .before .before .before .before .before .before .layout .ensures) _ (given (c .before .before .before .before .before .before .before .before)) (c .finish .result) (c .finish .ensures)))

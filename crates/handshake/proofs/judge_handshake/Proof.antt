@@ -3,11 +3,8 @@ use borrow.Author.Needs.{needs}
 use Rattle.handshake.proofs.judge_handshake.Statement.{statement}
 use Rattle.handshake.proofs.judge_handshake.Tie as tie
 use denote.Ref.{now}
-use Rattle.versions.specs.Handshake.{versionOf}
-use Rattle.handshake.proofs.Whole.{handshake-left, handshake-told}
-
-returns : tie.Need-returns
-returns c = handshake-told (now (c .before .before .before .before .before .before .before .before .before .before .before .before .before .before .args .client)) (now (c .before .before .before .before .before .before .before .before .before .before .before .before .before .before .args .daemon)) (c .before .before .before .before .before .before .before .before .before .before .before .before .before .before .args .slots) (versionOf (c .before .before .before .before .before .before .before .before .version .result)) (c .before .before .before .before .before .before .before .require-magics .result) (c .before .before .before .before .before .before .turn3 .result) (c .before .before .before .before .turn5 .result) (c .before .before .require-last .result) (handshake-left (now (c .before .before .before .before .before .before .before .before .before .before .before .before .before .before .args .client)) (now (c .before .before .before .before .before .before .before .before .before .before .before .before .before .before .args .daemon)) (c .before .before .before .before .before .before .before .before .before .before .before .before .before .before .args .slots) (versionOf (c .before .before .before .before .before .before .before .before .version .result)) (c .before .before .before .before .before .before .before .before .before .before .before .nothing .result) (c .before .before .before .before .before .before .before .before .before .before .before .nothing .ensures) (c .before .before .before .before .before .before .before .before .before .before .turn .result) (c .before .before .before .before .before .before .before .before .before .turn2 .result) (c .before .before .before .before .before .before .before .require-magics .result) (c .before .before .before .before .before .before .turn3 .result) (c .before .before .before .before .before .turn4 .result) (c .before .before .before .before .turn5 .result) (c .before .before .before .turn6 .result) (c .before .before .require-last .result) (c .before .before .before .before .before .before .before .before .before .before .turn .ensures) (c .before .before .before .before .before .before .before .before .before .turn2 .ensures) (c .before .before .before .before .before .before .before .require-magics .ensures) (c .before .before .before .before .before .before .before .before .version .ensures) (c .before .before .before .before .before .before .turn3 .ensures) (c .before .before .before .before .before .turn4 .ensures) (c .before .before .before .before .turn5 .ensures) (c .before .before .before .turn6 .ensures) (c .before .before .require-last .ensures)) (versionOf (c .before .client-version .result)) (c .before .client-version .ensures) (c .answer .result) (c .answer .ensures)
+use Rattle.table.specs.Table.{versionIn}
+use Rattle.handshake.proofs.Whole.{handshake-left, both-versions, handshake-told}
 
 pub judge-handshake-spec : {M : Type 1} → statement M
 judge-handshake-spec =
@@ -20,9 +17,16 @@ judge-handshake-spec =
     (λ c κs. search needs)
     (λ c κs. search needs)
     (λ c κs. search needs)
+    (λ c. search needs)
+    (λ c. search needs)
     (λ c κs. search needs)
     (λ c κs. search needs)
     (λ c κs. search needs)
     (λ c κs. search needs)
     (λ c κs. search needs)
-    returns)
+    (λ c κs. search needs)
+    (λ c κs. search needs)
+    (λ c κs. search needs)
+    (λ c κs. search needs)
+    (λ c κs. search needs)
+    (λ c. handshake-told (now (c .before .before .before .before .before .before .before .before .before .before .before .before .before .before .before .before .before .before .before .args .client)) (now (c .before .before .before .before .before .before .before .before .before .before .before .before .before .before .before .before .before .before .before .args .daemon)) (c .before .before .before .before .before .before .before .before .before .before .before .before .before .before .before .before .before .before .before .args .slots) (c .before .before .round3 .result) _ (handshake-left (now (c .before .before .before .before .before .before .before .before .before .before .before .before .before .before .before .before .before .before .before .args .client)) (now (c .before .before .before .before .before .before .before .before .before .before .before .before .before .before .before .before .before .before .before .args .daemon)) (c .before .before .before .before .before .before .before .before .before .before .before .before .before .before .before .before .before .before .before .args .slots) (versionIn (c .before .before .before .before .before .before .before .before .before .before .smaller .result)) (c .before .before .before .before .before .before .before .before .before .before .before .before .before .before .start .result) (c .before .before .before .before .before .before .before .before .before .before .before .before .before .before .start .ensures) (c .before .before .before .before .before .before .before .before .before .before .before .before .before .round .result) (c .before .before .before .before .before .before .before .before .before .require-number .result) (c .before .before .before .before .before .before .before .before .require-number2 .result) (c .before .before .before .before .before .round2 .result) (c .before .before .round3 .result) (c .before .before .before .before .before .before .before .before .before .before .before .before .before .before .before .before .layout .result) (c .before .before .before .before .before .before .before .before .before .before .before .before .before .before .before .layout2 .result) (c .before .before .before .before .before .before .before .layout3 .result) (c .before .before .before .before .before .before .layout4 .result) (c .before .before .before .before .layout5 .result) (c .before .before .before .layout6 .result) (c .before .before .before .before .before .before .before .before .before .before .before .before .before .before .before .before .layout .ensures) (c .before .before .before .before .before .before .before .before .before .before .before .before .before .before .before .layout2 .ensures) (c .before .before .before .before .before .before .before .before .before .before .before .before .before .round .ensures) (both-versions (c .before .before .before .before .before .before .before .before .before .before .before .before .version-in .result) (c .before .before .before .before .before .before .before .before .before .before .before .version-in2 .result) (c .before .before .before .before .before .before .before .before .before .before .smaller .result) _ _ (c .before .before .before .before .before .before .before .before .before .before .smaller .ensures .0) (c .before .before .before .before .before .before .before .before .before .before .before .before .version-in .ensures) (c .before .before .before .before .before .before .before .before .before .before .before .version-in2 .ensures)) (c .before .before .before .before .before .before .before .before .before .require-number .ensures) (c .before .before .before .before .before .before .before .before .require-number2 .ensures) (c .before .before .before .before .before .before .before .layout3 .ensures) (c .before .before .before .before .before .before .layout4 .ensures) (c .before .before .before .before .before .round2 .ensures) (c .before .before .before .before .layout5 .ensures) (c .before .before .before .layout6 .ensures) (c .before .before .round3 .ensures)) (c .before .version-in3 .result) (c .before .version-in3 .ensures) (c .finish .result) (c .finish .ensures)))

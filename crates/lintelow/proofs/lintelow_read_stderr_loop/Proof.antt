@@ -2,7 +2,7 @@
 use borrow.Author.Needs.{needs}
 use Rattle.lintelow.proofs.lintelow_read_stderr_loop.Statement.{statement}
 use Rattle.lintelow.proofs.lintelow_read_stderr_loop.Tie as tie
-use Rattle.block.proofs.Guard.{told-number, told-block}
+use Rattle.lintelow_answers.proofs.Guard.{told-number, told-block}
 
 pub lintelow-read-stderr-loop-spec : {M : Type 1} → statement M
 lintelow-read-stderr-loop-spec =

@@ -1,4 +1,4 @@
--- `pieces::four_at` meets its contract: by what `number::read_four` answers of the part.
+-- `pieces::four_at` meets its contract: by what `numbers::read_four` answers of the part.
 use borrow.Author.Needs.{needs}
 use Rattle.pieces.proofs.four_at.Statement.{statement}
 use Rattle.pieces.proofs.four_at.Tie as tie

@@ -1,4 +1,4 @@
--- `pieces::number_at` meets its contract: by what `number::read` answers of the part.
+-- `pieces::number_at` meets its contract: by what `numbers::read` answers of the part.
 use borrow.Author.Needs.{needs}
 use Rattle.pieces.proofs.number_at.Statement.{statement}
 use Rattle.pieces.proofs.number_at.Tie as tie

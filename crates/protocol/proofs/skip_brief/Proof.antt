@@ -3,7 +3,7 @@ use borrow.Author.Needs.{needs}
 use Rattle.protocol.proofs.skip_brief.Statement.{statement}
 use Rattle.protocol.proofs.skip_brief.Tie as tie
 use denote.Ref.{now}
-use Rattle.reading.proofs.Filled.{brief-is}
+use Rattle.walk_read.proofs.Filled.{brief-is}
 use Rattle.protocol.proofs.Rows.{brief-nothing, brief-short, brief-number}
 
 pub skip-brief-spec : {M : Type 1} → statement M

@@ -7,7 +7,7 @@ use mathlib.Core.Path.{_∙_}
 use Rattle.layouts.specs.Primitive.{version}
 use Rattle.layouts.specs.Operations.{only, None}
 use Rattle.layouts.specs.Calls.{skipDaemonResult}
-use Rattle.operations.proofs.Shapes.{reply-says, shape-refuses}
+use Rattle.table_operations.proofs.Shapes.{reply-says, shape-refuses}
 use Rattle.protocol.proofs.Rows.{unknown-skip, row-skip}
 
 returns : tie.Need-returns

@@ -3,11 +3,11 @@ use borrow.Author.Needs.{needs}
 use Rattle.protocol.proofs.skip_op_args.Statement.{statement}
 use Rattle.protocol.proofs.skip_op_args.Tie as tie
 use denote.Ref.{now}
-use Rattle.reading.proofs.Filled.{brief-is}
+use Rattle.walk_read.proofs.Filled.{brief-is}
 use Rattle.layouts.specs.Primitive.{version}
 use Rattle.layouts.specs.Operations.{Operation, find, skipKind}
 use Rattle.layouts.specs.Calls.{kindBy, skipOpArgs}
-use Rattle.operations.proofs.Shapes.{skipped-say, shape-refuses}
+use Rattle.table_operations.proofs.Shapes.{skipped-say, shape-refuses}
 use Rattle.protocol.proofs.Rows.{unknown-is, arguments-unknown, row-arguments, skipped-nothing}
 
 returns : tie.Need-returns

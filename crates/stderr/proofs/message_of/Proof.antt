@@ -3,7 +3,7 @@ use borrow.Author.Needs.{needs}
 use Rattle.stderr.proofs.message_of.Statement.{statement}
 use Rattle.stderr.proofs.message_of.Tie as tie
 use Rattle.table.specs.Claims.{others}
-use Rattle.codes.specs.declared.stderr.StderrCode.the-variants as C
+use Rattle.codes.specs.declared.StderrCode.the-variants as C
 use Rattle.stderr.proofs.Going.{message-by, last-is, error-is}
 
 pub message-of-spec : {M : Type 1} → statement M

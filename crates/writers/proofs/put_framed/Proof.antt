@@ -7,7 +7,7 @@ use Prim.Native.Nat.{_+_, _-_, _≤_}
 use denote.Ref.{now}
 use lib.ListN.{length, drop}
 use Rattle.layouts.specs.Writers.{framedBytes}
-use Rattle.output.proofs.Laws.{Filling, filling-start}
+use Rattle.writers_output.proofs.Laws.{Filling, filling-start}
 use Rattle.writers.proofs.Framed.{framed-room, framed-turn, framed-end}
 
 abbrev Inv-loop : tie.InvT-loop

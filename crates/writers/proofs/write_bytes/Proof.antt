@@ -4,7 +4,7 @@ use Rattle.writers.proofs.write_bytes.Statement.{statement}
 use Rattle.writers.proofs.write_bytes.Tie as tie
 use denote.Ref.{now}
 use Rattle.layouts.specs.Writers.{stringBytes}
-use Rattle.output.proofs.Laws.{done, full}
+use Rattle.writers_output.proofs.Laws.{done, full}
 
 returns : tie.Need-returns
 returns c =

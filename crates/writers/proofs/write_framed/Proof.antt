@@ -6,7 +6,7 @@ use native.Mathlib.Omega.{arith}
 use mathlib.Core.Path.{sym, _∙_}
 use denote.Ref.{now}
 use Rattle.layouts.specs.Writers.{framedBytes}
-use Rattle.output.proofs.Laws.{done, full}
+use Rattle.writers_output.proofs.Laws.{done, full}
 use Rattle.writers.proofs.Framed.{length-framed}
 
 returns : tie.Need-returns

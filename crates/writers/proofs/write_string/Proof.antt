@@ -1,5 +1,5 @@
 -- `writers::write_string` meets its contract.
-use Rattle.output.specs.Answer.{meaning}
+use Rattle.writers_output.specs.Answer.{meaning}
 use borrow.Author.Needs.{needs}
 use Rattle.writers.proofs.write_string.Statement.{statement}
 use Rattle.writers.proofs.write_string.Tie as tie

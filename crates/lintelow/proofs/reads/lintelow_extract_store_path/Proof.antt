@@ -7,9 +7,9 @@ use mathlib.Core.Bool.{Bool}
 use denote.Ref.{now}
 use Rattle.layouts.specs.Primitive.{ok}
 use Rattle.layouts.specs.Writers.{isStorePath}
-use Rattle.judge.specs.Judged.{answerAs}
-use Rattle.answers.specs.Answers.{yesNo}
-use Rattle.block.proofs.Guard.{told-number, told-block}
+use Rattle.walk_judge.specs.Judged.{answerAs}
+use Rattle.lintelow_answers.specs.Answers.{yesNo}
+use Rattle.lintelow_answers.proofs.Guard.{told-number, told-block}
 
 returns : tie.Need-returns
 returns c = let e = c .before .before .before .yes-no .ensures ∙ ap (λ (x : Bool). answerAs (yesNo (ok x))) (c .before .before .before .before .before .extract-store-path .ensures) in (told-number (now (c .before .before .before .before .before .before .before .before .args .block)) (answerAs (yesNo (ok (isStorePath (now (c .before .before .before .before .before .before .before .before .args .c)))))) _ _ e (c .before .before .put .ensures .0), told-block (now (c .before .before .before .before .before .before .before .before .args .block)) (answerAs (yesNo (ok (isStorePath (now (c .before .before .before .before .before .before .before .before .args .c)))))) _ _ e (c .before .before .put .ensures .1))

@@ -7,9 +7,9 @@ use mathlib.Core.Bool.{Bool}
 use denote.Ref.{now}
 use Rattle.layouts.specs.Primitive.{Result}
 use Rattle.layouts.specs.Calls.{opHasClientFramedData}
-use Rattle.judge.specs.Judged.{answerAs}
-use Rattle.answers.specs.Answers.{yesNo}
-use Rattle.block.proofs.Guard.{told-number, told-block}
+use Rattle.walk_judge.specs.Judged.{answerAs}
+use Rattle.lintelow_answers.specs.Answers.{yesNo}
+use Rattle.lintelow_answers.proofs.Guard.{told-number, told-block}
 
 returns : tie.Need-returns
 returns c = let e = c .before .before .before .framed .ensures ∙ ap (λ (x : Result Bool). answerAs (yesNo x)) (c .before .before .before .before .before .op-has-client-framed-data .ensures) in (told-number (now (c .before .before .before .before .before .before .before .args .block)) (answerAs (yesNo (opHasClientFramedData (c .before .before .before .before .before .before .before .args .op)))) _ _ e (c .before .before .put .ensures .0), told-block (now (c .before .before .before .before .before .before .before .args .block)) (answerAs (yesNo (opHasClientFramedData (c .before .before .before .before .before .before .before .args .op)))) _ _ e (c .before .before .put .ensures .1))

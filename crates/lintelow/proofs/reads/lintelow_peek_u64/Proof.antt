@@ -6,9 +6,9 @@ use mathlib.Core.Path.{_∙_, ap}
 use denote.Ref.{now}
 use Rattle.layouts.specs.Pieces.{Num}
 use Rattle.layouts.specs.Calls.{peekNumber}
-use Rattle.judge.specs.Judged.{answerAs}
-use Rattle.answers.specs.Answers.{peekedAt}
-use Rattle.block.proofs.Guard.{told-number, told-block}
+use Rattle.walk_judge.specs.Judged.{answerAs}
+use Rattle.lintelow_answers.specs.Answers.{peekedAt}
+use Rattle.lintelow_answers.proofs.Guard.{told-number, told-block}
 
 returns : tie.Need-returns
 returns c = let e = c .before .before .before .peek .ensures ∙ ap (λ (x : Num). answerAs (peekedAt (c .before .before .before .before .before .before .before .before .args .at) x)) (c .before .before .before .before .before .peek-u64 .ensures) in (told-number (now (c .before .before .before .before .before .before .before .before .args .block)) (answerAs (peekedAt (c .before .before .before .before .before .before .before .before .args .at) (peekNumber (now (c .before .before .before .before .before .before .before .before .args .s)) (c .before .before .before .before .before .before .before .before .args .at)))) _ _ e (c .before .before .put .ensures .0), told-block (now (c .before .before .before .before .before .before .before .before .args .block)) (answerAs (peekedAt (c .before .before .before .before .before .before .before .before .args .at) (peekNumber (now (c .before .before .before .before .before .before .before .before .args .s)) (c .before .before .before .before .before .before .before .before .args .at)))) _ _ e (c .before .before .put .ensures .1))

@@ -7,9 +7,9 @@ use Prim.Native.Nat.{ℕ}
 use denote.Ref.{now}
 use Rattle.layouts.specs.Primitive.{Result}
 use Rattle.layouts.specs.Calls.{skipString}
-use Rattle.judge.specs.Judged.{answerAs}
-use Rattle.answers.specs.Answers.{passedTo}
-use Rattle.block.proofs.Guard.{told-number, told-block}
+use Rattle.walk_judge.specs.Judged.{answerAs}
+use Rattle.lintelow_answers.specs.Answers.{passedTo}
+use Rattle.lintelow_answers.proofs.Guard.{told-number, told-block}
 
 returns : tie.Need-returns
 returns c = let e = c .before .before .before .passed .ensures ∙ ap (λ (x : Result ℕ). answerAs (passedTo x)) (c .before .before .before .before .before .skip-string .ensures) in (told-number (now (c .before .before .before .before .before .before .before .before .args .block)) (answerAs (passedTo (skipString (now (c .before .before .before .before .before .before .before .before .args .s)) (c .before .before .before .before .before .before .before .before .args .at)))) _ _ e (c .before .before .put .ensures .0), told-block (now (c .before .before .before .before .before .before .before .before .args .block)) (answerAs (passedTo (skipString (now (c .before .before .before .before .before .before .before .before .args .s)) (c .before .before .before .before .before .before .before .before .args .at)))) _ _ e (c .before .before .put .ensures .1))

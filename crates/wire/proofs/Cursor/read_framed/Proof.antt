@@ -1,14 +1,19 @@
--- `wire::Cursor::read_framed` meets its contract.
+-- `wire::Cursor::read_framed` meets its contract: what is judged fine is joined.
 use borrow.Author.Needs.{needs}
 use Rattle.wire.proofs.Cursor.read_framed.Statement.{statement}
 use Rattle.wire.proofs.Cursor.read_framed.Tie as tie
-use mathlib.Core.Path.{_∙_}
+use denote.Ref.{now}
+use Rattle.wire.proofs.Frames.{read-refused, read-joined}
 
 pub read-framed-spec : {M : Type 1} → statement M
 read-framed-spec =
     tie.close
     (tie.spec
     (λ c κs. search needs)
-    (λ c κs. search needs)
     (λ c. search needs)
-    (λ c. (c .after-frames .ensures ∙ c .before .before .before .read-frames .ensures .0, c .before .before .before .read-frames .ensures .1)))
+    (λ c. search needs)
+    (λ c κs. search needs)
+    (λ c κs. search needs)
+    (λ c. read-refused (now (c .before .before .before .before .before .before .args .s)) _ (now (c .before .before .before .before .before .before .args .out)) (c .before .before .before .judge-framed .result) (c .before .before .before .judge-framed .ensures) _ (c .before .r .given .1))
+    (λ c. search needs)
+    (λ c. read-joined (now (c .before .before .before .before .before .before .before .before .before .before .before .args .s)) _ (now (c .before .before .before .before .before .before .before .before .before .before .before .args .out)) (c .before .before .before .before .before .before .before .before .judge-framed .result) (c .before .before .before .before .before .before .before .before .judge-framed .ensures) _ _ (c .before .before .before .before .before .before .value .given .1) _ (c .before .before .before .before .layout .ensures) _ (c .before .before .fill-payload .ensures)))

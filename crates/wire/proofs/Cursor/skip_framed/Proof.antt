@@ -1,8 +1,7 @@
--- `wire::Cursor::skip_framed` meets its contract.
+-- `wire::Cursor::skip_framed` meets its contract: the total is the number.
 use borrow.Author.Needs.{needs}
 use Rattle.wire.proofs.Cursor.skip_framed.Statement.{statement}
 use Rattle.wire.proofs.Cursor.skip_framed.Tie as tie
-use mathlib.Core.Path.{_∙_}
 use denote.Ref.{now}
 use Rattle.wire.proofs.Frames.{framed-skip}
 
@@ -11,5 +10,4 @@ skip-framed-spec =
     tie.close
     (tie.spec
     (λ c κs. search needs)
-    (λ c κs. search needs)
-    (λ c. framed-skip (now (c .before .before .before .args .s)) (c .before .before .before .args .self .at) (c .after-frames .result) (c .after-frames .ensures ∙ c .before .frames-at .ensures)))
+    (λ c. framed-skip (now (c .before .before .args .s)) _ (c .judge-framed .result) (c .judge-framed .ensures)))

@@ -1,2 +1,0 @@
--- `Unique`: each public contract has one answer.
-pub mod Unique

@@ -1,0 +1,14 @@
+-- `handshake::answer` meets its contract: the record with the versions in the place of its numbers.
+use borrow.Author.Needs.{needs}
+use Rattle.handshake.proofs.answer.Statement.{statement}
+use Rattle.handshake.proofs.answer.Tie as tie
+use Rattle.handshake.proofs.Ways.{replied}
+
+pub answer-spec : {M : Type 1} → statement M
+answer-spec =
+    tie.close
+    (tie.spec
+    (λ c κs. search needs)
+    (λ c κs. search needs)
+    (λ c κs. search needs)
+    (λ c. replied (c .before .before .before .before .args .sofar) (c .before .before .before .before .args .c) _ _ _ (c .before .versions .ensures) (c .before .before .before .version-in .ensures) (c .before .before .number-in .ensures)))

@@ -1,4 +1,0 @@
--- `Unique` is what docs/PROOFS.md cites; the others serve the folds.
-pub mod Trees
-pub mod Fields
-pub mod Unique

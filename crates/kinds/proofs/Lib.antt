@@ -1,3 +1,0 @@
-pub mod Versions
-pub mod Itself
-pub mod Unique

@@ -1,0 +1,26 @@
+-- `lintelow_answers::passed` meets its contract: by where the skipper is.
+use borrow.Author.Needs.{needs}
+use Rattle.lintelow_answers.proofs.passed.Statement.{statement}
+use Rattle.lintelow_answers.proofs.passed.Tie as tie
+use mathlib.Core.Path.{sym, _∙_, ap}
+use Rattle.walk_judge.specs.Judged.{answerAs}
+use Rattle.wire.specs.declared.Skipped.{Skipped}
+use Rattle.wire.specs.Answers.{skippedTo}
+use Rattle.lintelow_answers.specs.Answers.{passedTo}
+
+returns : tie.Need-returns
+returns c = c .fine .ensures ∙ ap (λ (x : Skipped). answerAs (passedTo (skippedTo x))) (sym (c .before .before .r .given .1))
+
+returns-2 : tie.Need-returns-2
+returns-2 c = c .refused-answer .ensures ∙ ap (λ (x : Skipped). answerAs (passedTo (skippedTo x))) (sym (c .before .before .r2 .given .1))
+
+pub passed-spec : {M : Type 1} → statement M
+passed-spec =
+    tie.close
+    (tie.spec
+    (λ c. search needs)
+    (λ c κs. search needs)
+    (λ c. search needs)
+    (λ c κs. search needs)
+    returns
+    returns-2)

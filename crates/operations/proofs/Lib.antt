@@ -1,3 +1,0 @@
-pub mod Search
-pub mod Shapes
-pub mod Unique

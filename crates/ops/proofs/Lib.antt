@@ -1,2 +1,0 @@
--- `Unique` says that each contract determines its answer.
-pub mod Unique

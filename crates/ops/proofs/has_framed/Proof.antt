@@ -1,7 +1,0 @@
--- `ops::has_framed` meets its contract.
-use mathlib.Core.Path.{refl}
-use Rattle.ops.proofs.has_framed.Statement.{statement}
-use Rattle.ops.proofs.has_framed.Tie as tie
-
-pub has-framed-spec : {M : Type 1} → statement M
-has-framed-spec = tie.close (tie.spec (λ c. refl))

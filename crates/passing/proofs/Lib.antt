@@ -1,4 +1,0 @@
--- They serve the folds.
-pub mod Passing
-pub mod Moving
-pub mod Unique

@@ -1,2 +1,0 @@
--- `Unique`: the public contract leaves one answer.
-pub mod Unique

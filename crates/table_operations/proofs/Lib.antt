@@ -1,0 +1,4 @@
+pub mod Search
+pub mod Shapes
+pub mod Itself
+pub mod Unique

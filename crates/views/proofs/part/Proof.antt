@@ -1,0 +1,22 @@
+-- `views::part` meets its contract: a place that is answered lies inside.
+use borrow.Author.Needs.{needs}
+use native.Mathlib.Omega.{arith}
+use Rattle.entries.proofs.Places.{inside}
+use Rattle.views.proofs.Laws.{part, empty}
+use Rattle.views.proofs.part.Statement.{statement}
+use Rattle.views.proofs.part.Tie as tie
+
+pub part-spec : {M : Type 1} → statement M
+part-spec =
+    tie.close
+    (tie.spec
+    (λ c κs. search needs)
+    (λ c. search needs)
+    (λ c. omega (arith, inside _ _ _ _ (c .before .before .before .find .ensures) _ _ (c .before .start .given .1) .within))
+    (λ c. search needs)
+    (λ c. search needs)
+    (λ c. omega (arith, inside _ _ _ _ (c .before .before .before .find .ensures) _ _ (c .before .start .given .1) .within))
+    (λ c. search needs)
+    (λ c. search needs)
+    (λ c. part _ _ _ _ (c .before .before .before .before .find .ensures) _ _ (c .before .before .start .given .1))
+    (λ c. search empty))

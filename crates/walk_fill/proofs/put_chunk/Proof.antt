@@ -1,0 +1,21 @@
+-- `walk_fill::put_chunk` meets its contract.
+use borrow.Author.Needs.{needs}
+use Rattle.walk_fill.proofs.put_chunk.Statement.{statement}
+use Rattle.walk_fill.proofs.put_chunk.Tie as tie
+use denote.Ref.{now}
+use Rattle.walk_fill.proofs.Pieces.{chunk-put}
+
+returns : tie.Need-returns
+returns c = chunk-put (now (c .before .before .before .before .before .before .before .args .s)) (c .before .before .before .before .before .before .before .args .start) (c .before .before .before .before .before .before .before .args .len) _ _ _ _ (c .before .before .put-bytes .ensures)
+
+pub put-chunk-spec : {M : Type 1} → statement M
+put-chunk-spec =
+    tie.close
+    (tie.spec
+    (λ c. search needs)
+    (λ c. search needs)
+    (λ c. search needs)
+    (λ c. search needs)
+    (λ c κs. search needs)
+    (λ c. search needs)
+    returns)

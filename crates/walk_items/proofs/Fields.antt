@@ -1,0 +1,89 @@
+-- A field by its kind: a string, framed data, or a number and what follows it.
+use Prim.Native.Nat.{ℕ, zero, suc}
+use mathlib.Core.Path.{_≡_, refl, sym, _∙_, ap}
+use mathlib.Core.Bool.{Bool, true, false}
+use lib.Dec.{eqb}
+use borrow.Author.Tests.{eq-eqb, ne-eqb, eqb-true}
+use Rattle.layouts.specs.Primitive.{pick}
+use Rattle.layouts.specs.Shape.{Slot, dropped, passed, num, set, pairs, maybe, typed, Tree, ask, say, frames, units, ifTrue, byType, field}
+use Rattle.table.specs.Table.{roleOf, slotOf, whatOf}
+use Rattle.walk_items.specs.Items.{slotFor, afterNumber}
+
+number-by : (role slot : ℕ) (k : Unit {0} → Tree) (a b c d : Bool)
+    → field (pick a (set (roleOf role) (slotOf slot)) (pick b (pairs (roleOf role) (slotOf slot)) (pick c maybe (pick d typed (num (slotOf slot)))))) k
+    ≡ ask (pick a (slotOf slot) (pick b (slotOf slot) (pick c dropped (pick d dropped (slotOf slot)))))
+    (λ n. pick a (units (roleOf role) 0 n k) (pick b (units (roleOf role) 1 n k) (pick c (ifTrue n k) (pick d (byType n k) (k tt)))))
+unfolding field
+number-by role slot k true b c d = refl
+number-by role slot k false true c d = refl
+number-by role slot k false false true d = refl
+number-by role slot k false false false true = refl
+number-by role slot k false false false false = refl
+
+slot-by : (slot : ℕ) (c d : Bool) → pick c dropped (pick d dropped (slotOf slot)) ≡ slotOf (pick c 0 (pick d 0 slot))
+unfolding slotOf
+slot-by slot true d = refl
+slot-by slot false true = refl
+slot-by slot false false = refl
+
+-- sets and pairs keep their slot
+kind-slot : (kind : ℕ) (i : Slot) (a b : Bool) → eqb kind 3 ≡ a → eqb kind 4 ≡ b
+    → pick a i (pick b i (pick (eqb kind 6) dropped (pick (eqb kind 7) dropped i))) ≡ pick (eqb kind 6) dropped (pick (eqb kind 7) dropped i)
+kind-slot kind i true b p q = rw (eqb-true kind 3 p)
+kind-slot kind i false true p q = rw (eqb-true kind 4 q)
+kind-slot kind i false false p q = refl
+
+module _ (kind role : ℕ) where
+  module _ (slot : ℕ) (k : Unit {0} → Tree) where
+    pub is-text : kind ≡ 2 → field (whatOf kind (roleOf role) (slotOf slot)) k ≡ say (roleOf role) k
+    unfolding field whatOf
+    is-text e = rw (eq-eqb kind 2 e)
+
+    pub is-framed : kind ≡ 5 → field (whatOf kind (roleOf role) (slotOf slot)) k ≡ frames k
+    unfolding field whatOf
+    is-framed e = rw e
+
+    pub is-number : (kind ≡ 2 → ⊥) → (kind ≡ 5 → ⊥) → field (whatOf kind (roleOf role) (slotOf slot)) k ≡ ask (slotOf (slotFor kind slot)) (λ n. afterNumber kind role n k)
+    unfolding whatOf afterNumber
+    is-number a b =
+        rw (ne-eqb kind 2 a, ne-eqb kind 5 b)
+        (number-by role slot k (eqb kind 3) (eqb kind 4) (eqb kind 6) (eqb kind 7)
+        ∙ ap (λ (i : Slot). ask i (λ n. afterNumber kind role n k)) (kind-slot kind (slotOf slot) (eqb kind 3) (eqb kind 4) refl refl ∙ slot-by slot (eqb kind 6) (eqb kind 7)))
+
+  -- ---- what follows the number n
+  module _ (n : ℕ) (k : Unit {0} → Tree) where
+    pub after-set : kind ≡ 3 → afterNumber kind role n k ≡ units (roleOf role) 0 n k
+    unfolding afterNumber
+    after-set e = rw e
+
+    pub after-pairs : kind ≡ 4 → afterNumber kind role n k ≡ units (roleOf role) 1 n k
+    unfolding afterNumber
+    after-pairs e = rw e
+
+    pub after-false : kind ≡ 6 → n ≡ 0 → afterNumber kind role n k ≡ k tt
+    unfolding afterNumber
+    after-false e z = rw (e, z)
+
+    pub after-type-0 : kind ≡ 7 → n ≡ 0 → afterNumber kind role n k ≡ ask dropped (λ v. k tt)
+    unfolding afterNumber
+    after-type-0 e z = rw (e, z)
+
+    pub after-nothing : (kind ≡ 3 → ⊥) → (kind ≡ 4 → ⊥) → (kind ≡ 6 → ⊥) → (kind ≡ 7 → ⊥) → afterNumber kind role n k ≡ k tt
+    unfolding afterNumber
+    after-nothing a b c d = rw (ne-eqb kind 3 a, ne-eqb kind 4 b, ne-eqb kind 6 c, ne-eqb kind 7 d)
+
+  true-by : (n : ℕ) (k : Unit {0} → Tree) → (n ≡ 0 → ⊥) → ifTrue n k ≡ ask dropped (λ v. k tt)
+  true-by zero k z = absurd (z refl)
+  true-by (suc n) k z = refl
+
+  type-by : (n : ℕ) (k : Unit {0} → Tree) → (n ≡ 0 → ⊥) → byType n k ≡ say passed k
+  type-by zero k z = absurd (z refl)
+  type-by (suc n) k z = refl
+
+  pub after-true : (n : ℕ) (k : Unit {0} → Tree) → kind ≡ 6 → (n ≡ 0 → ⊥) → afterNumber kind role n k ≡ ask dropped (λ v. k tt)
+  unfolding afterNumber
+  after-true n k e z = rw e (true-by n k z)
+
+  pub after-typed : (n : ℕ) (k : Unit {0} → Tree) → kind ≡ 7 → (n ≡ 0 → ⊥) → afterNumber kind role n k ≡ say passed k
+  unfolding afterNumber
+  after-typed n k e z = rw e (type-by n k z)

@@ -1,0 +1,19 @@
+-- `walk_items::in_brief` meets its contract: by the place of the first group.
+use borrow.Author.Needs.{needs}
+use mathlib.Core.Path.{sym, _∙_}
+use Rattle.walk_items.proofs.in_brief.Statement.{statement}
+use Rattle.walk_items.proofs.in_brief.Tie as tie
+use Rattle.walk_items.proofs.Trees.{brief-nothing, brief-empty, brief-number, brief-longer}
+
+pub in-brief-spec : {M : Type 1} → statement M
+in-brief-spec =
+    tie.close
+    (tie.spec
+    (λ c κs. search needs)
+    (λ c. search needs)
+    (λ c. brief-nothing _ _ (c .before .first .ensures) (c .if1 .taken))
+    (λ c. search needs)
+    (λ c. brief-empty _ _ (c .before .before .first .ensures) (c .before .if1 .left) (c .if2 .taken))
+    (λ c. search needs)
+    (λ c. brief-number _ _ (c .before .before .before .first .ensures) (c .before .before .if1 .left) (c .before .if2 .left) (c .if3 .taken))
+    (λ c. brief-longer _ _ (c .before .before .before .first .ensures) (c .before .before .if1 .left) (c .before .if2 .left) (c .if3 .left)))

@@ -1,0 +1,24 @@
+-- `walk_judge::judge_after` meets its contract: by the kind of the field and its number.
+use borrow.Author.Needs.{needs}
+use Rattle.walk_judge.proofs.judge_after.Statement.{statement}
+use Rattle.walk_judge.proofs.judge_after.Tie as tie
+use denote.Ref.{now}
+use native.Mathlib.Omega.{arith}
+use Rattle.walk_judge.proofs.Feeding.{took-from, set-after, pairs-after, true-after, type-after, typed-after, false-after, nothing-after}
+
+pub judge-after-spec : {M : Type 1} → statement M
+judge-after-spec =
+    tie.close
+    (tie.spec
+    (λ c κs. search needs)
+    (λ c. (search set-after, c .judge-series .ensures .1))
+    (λ c κs. search needs)
+    (λ c. (search pairs-after, c .judge-series2 .ensures .1))
+    (λ c. (search false-after, omega arith))
+    (λ c κs. search needs)
+    (λ c. (true-after _ _ _ _ _ _ _ _ _ _ (c .before .before .if3 .taken) (c .before .if4 .left) (c .drop-number .ensures .0 _ _), took-from (now (c .before .before .before .before .before .before .args .s)) (c .before .before .before .before .before .before .args .at) (c .drop-number .result) (c .drop-number .ensures .1)))
+    (λ c κs. search needs)
+    (λ c. (type-after _ _ _ _ _ _ _ _ _ _ (c .before .before .if5 .taken) (c .before .if6 .taken) (c .drop-number2 .ensures .0 _ _), took-from (now (c .before .before .before .before .before .before .before .args .s)) (c .before .before .before .before .before .before .before .args .at) (c .drop-number2 .result) (c .drop-number2 .ensures .1)))
+    (λ c κs. search needs)
+    (λ c. (search typed-after, took-from (now (c .before .before .before .before .before .before .before .before .args .s)) (c .before .before .before .before .before .before .before .before .args .at) (c .judge-text .result) (c .judge-text .ensures .1)))
+    (λ c. (search nothing-after, omega arith)))

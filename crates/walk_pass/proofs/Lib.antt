@@ -1,0 +1,5 @@
+-- They serve the folds.
+pub mod Passing
+pub mod Moving
+pub mod Skipping
+pub mod Unique

@@ -1,0 +1,47 @@
+-- `walk_pass::pass_frames` meets its contract: chunk by chunk.
+use borrow.Author.Needs.{needs}
+use Rattle.walk_pass.proofs.pass_frames.Statement.{statement}
+use Rattle.walk_pass.proofs.pass_frames.Tie as tie
+use denote.Ref.{now}
+use Prim.Native.Nat.{_-_}
+use lib.ListN.{length}
+use native.Mathlib.Omega.{arith}
+use Rattle.pieces.proofs.Nodes.{part-found}
+use Rattle.walk_pass.proofs.Passing.{Framing, framing-start, framing-wrong, framing-last, framing-on}
+
+abbrev Inv-loop : tie.InvT-loop
+Inv-loop s from at₀ at = Framing s from at
+
+abbrev μ-loop : tie.MeasureT-loop
+μ-loop s from at₀ at = length s - at
+
+loop-holds : tie.Need-loop-holds Inv-loop μ-loop
+loop-holds c = framing-start (now (c .before .args .s)) (c .before .args .from)
+
+returns : tie.Need-returns Inv-loop μ-loop
+returns c = framing-wrong (now (c .before .before .before .before .before .before .args .s)) _ _ (c .before .before .before .before .loop .inv) _ (c .before .before .before .chunk-at .ensures) _ (c .before .m .given .1)
+
+returns-2 : tie.Need-returns-2 Inv-loop μ-loop
+returns-2 c = framing-last (now (c .before .before .before .before .before .before .args .s)) _ _ (c .before .before .before .before .loop .inv) _ (c .before .before .before .chunk-at .ensures) _ (c .before .m2 .given .1)
+
+loop-less : tie.Need-loop-less Inv-loop μ-loop
+loop-less c = omega (arith, part-found (now (c .before .before .before .before .before .before .args .s)) _ _ (c .before .before .before .chunk-at .ensures) _ _ _ (c .before .m3 .given .1))
+
+loop-again : tie.Need-loop-again Inv-loop μ-loop
+loop-again c = framing-on (now (c .before .before .before .before .before .before .args .s)) _ _ (c .before .before .before .before .loop .inv) _ (c .before .before .before .chunk-at .ensures) _ _ _ (c .before .m3 .given .1)
+
+pub pass-frames-spec : {M : Type 1} → statement M
+pass-frames-spec =
+    tie.close
+    (tie.spec
+    Inv-loop
+    μ-loop
+    loop-holds
+    (λ c κs. search needs)
+    (λ c. search needs)
+    returns
+    (λ c. search needs)
+    returns-2
+    (λ c. search needs)
+    loop-less
+    loop-again)

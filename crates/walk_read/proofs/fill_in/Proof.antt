@@ -1,0 +1,21 @@
+-- `walk_read::fill_in` meets its contract: by a second fold, or from the window.
+use borrow.Author.Needs.{needs}
+use Rattle.walk_read.proofs.fill_in.Statement.{statement}
+use Rattle.walk_read.proofs.fill_in.Tie as tie
+use Rattle.writers_output.specs.Numbers.{bytesOf}
+use Rattle.walk_rooms.proofs.Laws.{put-sets}
+use Rattle.walk_read.proofs.Filled.{from-window, no-payload}
+
+pub fill-in-spec : {M : Type 1} → statement M
+fill-in-spec =
+    tie.close
+    (tie.spec
+    (λ c κs. search needs)
+    (λ c. search needs)
+    (λ c. search needs)
+    (λ c. search needs)
+    (λ c. (put-sets _ _ _ _ (c .before .before .before .before .before .before .fill .ensures .0), (put-sets _ _ _ _ (c .before .before .before .before .before .before .fill .ensures .1 .0), c .before .before .before .before .before .before .fill .ensures .1 .1)))
+    (λ c κs. search needs)
+    (λ c. search needs)
+    (λ c. search needs)
+    (λ c. let h = c .before .before .before .before .before .before .before .before .before .before .before .before .before .pre in let n = c .before .before .before .before .before .before .before .before .if1 .left in (from-window _ _ _ _ _ h n (λ x. x) _ _ (c .before .before .before .before .put-window .ensures .0), (from-window _ _ _ _ _ h n bytesOf _ _ (c .before .before .before .before .put-window .ensures .1), no-payload _ _ _ _ _ h n _))))

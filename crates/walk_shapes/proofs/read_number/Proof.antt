@@ -1,0 +1,21 @@
+-- `walk_shapes::read_number` meets its contract: a number, or none.
+use borrow.Author.Needs.{needs}
+use Rattle.walk_shapes.proofs.read_number.Statement.{statement}
+use Rattle.walk_shapes.proofs.read_number.Tie as tie
+use denote.Ref.{now}
+use Rattle.walk_shapes.proofs.Brief.{short-said, number-said}
+
+pub read-number-spec : {M : Type 1} → statement M
+read-number-spec =
+    tie.close
+    (tie.spec
+    (λ c κs. search needs)
+    (λ c. search needs)
+    (λ c κs. search needs)
+    (λ c κs. search needs)
+    (λ c. search needs)
+    (λ c. search needs)
+    (λ c κs. search needs)
+    (λ c κs. search needs)
+    (λ c. short-said _ _ (c .before .before .before .before .before .before .before .before .pre) (now (c .before .before .before .before .before .before .before .before .args .s)) _ (c .before .before .before .before .before .before .number-at .ensures) _ _ (c .before .before .before .before .enum-told .given .1) (c .before .before .before .refuse .ensures) (c .refuse2 .ensures .1))
+    (λ c. number-said _ _ (c .before .before .before .before .before .before .before .before .before .pre) (now (c .before .before .before .before .before .before .before .before .before .args .s)) _ (c .before .before .before .before .before .before .before .number-at .ensures) _ _ (c .before .before .before .before .before .m .given .1) (rw (← c .before .spoken .ensures) (c .kind-of .ensures))))

@@ -1,0 +1,164 @@
+// A shape of an operation, read from the start of the stream: a layout in brief, or judged and filled in.
+ghost use mathlib.Core.Path.{_≡_};
+ghost use mathlib.Core.List.{List};
+ghost use Prim.Native.Nat.{ℕ};
+ghost use Rattle.layouts.specs.Primitive.{version};
+ghost use Rattle.walk_items.specs.Items.{versionOf, layoutTree, Briefly};
+ghost use Rattle.walk_items.specs.declared.Brief.the-variants as B;
+ghost use Rattle.walk_judge.specs.Judged.{answerOf, answerAs};
+ghost use Rattle.walk_read.specs.Reading.{readBy, answeredAs};
+ghost use Rattle.walk_shapes.specs.Shapes.{ReadInBrief, argumentsFilled, replyFilled};
+use numbers::Number;
+use table_operations::Shape;
+use walk_items::Brief;
+use walk_items::Layout;
+use walk_judge::Said;
+
+// A layout without fields: no fold is needed.
+fn read_nothing(layout: Layout, code: u8, numbers: &mut [u64; 12], counts: &mut [u64; 3]) -> Said
+    requires { ⌜ Briefly (layoutTree layout) B.Nothing ⌝ }
+    ensures { λ r. ⌜ ((s : List ℕ) (slots room : ℕ) → answerOf r (now (numbers .exit)) (now (counts .exit)) ≡ answerAs (answeredAs (versionOf layout) code (readBy layout s slots room))) ⌝ }
+{
+    *numbers = [0u64; 12];
+    *counts = [0u64; 3];
+    Said::Fine {
+        kind: table_operations::kind_of(code, walk_items::spoken(layout), false),
+        ends: 0,
+        ends2: 0,
+        entries: 0,
+        payload: 0,
+        present: false,
+    }
+}
+
+// A layout of one number.
+fn read_number(
+    s: &[u8],
+    layout: Layout,
+    code: u8,
+    numbers: &mut [u64; 12],
+    counts: &mut [u64; 3],
+) -> Said
+    requires { ⌜ Briefly (layoutTree layout) B.Number ⌝ }
+    ensures { λ r. ⌜ ((slots room : ℕ) → answerOf r (now (numbers .exit)) (now (counts .exit)) ≡ answerAs (answeredAs (versionOf layout) code (readBy layout (now (s .entry)) slots room))) ⌝ }
+{
+    let m = pieces::number_at(s, 0);
+    match m {
+        Number::Short => walk_judge::refuse(
+            layouts::refuse(layouts::CUT_SHORT, 0),
+            numbers,
+            counts,
+        ),
+        Number::Value(x) => {
+            *numbers = [0u64; 12];
+            *counts = [0u64; 3];
+            numbers[0] = x;
+            Said::Fine {
+                kind: table_operations::kind_of(code, walk_items::spoken(layout), false),
+                ends: 8,
+                ends2: 0,
+                entries: 0,
+                payload: 0,
+                present: false,
+            }
+        }
+    }
+}
+
+// What a layout says that needs no fold.
+enum InBrief {
+    Said(Said),
+    Longer,
+}
+
+fn read_brief(
+    s: &[u8],
+    layout: Layout,
+    code: u8,
+    numbers: &mut [u64; 12],
+    counts: &mut [u64; 3],
+) -> InBrief
+    ensures { λ r. ⌜ ReadInBrief layout code (now (s .entry)) (now (numbers .exit)) (now (counts .exit)) r ⌝ }
+{
+    let b = walk_items::in_brief(layout);
+    match b {
+        Brief::Nothing => InBrief::Said(read_nothing(layout, code, numbers, counts)),
+        Brief::Number => InBrief::Said(read_number(s, layout, code, numbers, counts)),
+        Brief::Longer => InBrief::Longer,
+    }
+}
+
+// An unknown operation is refused before any byte. `read_reply` has the same lines: with one caller each, LLVM puts both into the exported functions.
+pub fn read_arguments(
+    op: u64,
+    major: u16,
+    minor: u8,
+    s: &[u8],
+    words: &mut [u64],
+    bytes: &mut [u8],
+    payload: &mut [u8],
+    numbers: &mut [u64; 12],
+    counts: &mut [u64; 3],
+) -> Said
+    ensures answer { λ r. ⌜ answerOf r (now (numbers .exit)) (now (counts .exit))
+        ≡ argumentsFilled op (version major minor) (now (s .entry)) (now (words .entry)) (now (bytes .entry)) (now (payload .entry)) .answer ⌝ }
+    ensures words { λ r. ⌜ now (words .exit) ≡ argumentsFilled op (version major minor) (now (s .entry)) (now (words .entry)) (now (bytes .entry)) (now (payload .entry)) .words ⌝ }
+    ensures bytes { λ r. ⌜ now (bytes .exit) ≡ argumentsFilled op (version major minor) (now (s .entry)) (now (words .entry)) (now (bytes .entry)) (now (payload .entry)) .bytes ⌝ }
+    ensures payload { λ r. ⌜ now (payload .exit) ≡ argumentsFilled op (version major minor) (now (s .entry)) (now (words .entry)) (now (bytes .entry)) (now (payload .entry)) .payload ⌝ }
+{
+    let shape = table_operations::arguments(op);
+    match shape {
+        Shape::Unknown => walk_judge::refuse(
+            layouts::refuse(layouts::UNKNOWN_OPERATION, 0),
+            numbers,
+            counts,
+        ),
+        Shape::At { first, kind } => {
+            let layout = walk_items::layout(major, minor, first);
+            let b = read_brief(s, layout, kind, numbers, counts);
+            match b {
+                InBrief::Said(said) => said,
+                InBrief::Longer => {
+                    walk_read::read(s, layout, kind, words, bytes, payload, numbers, counts)
+                }
+            }
+        }
+    }
+}
+
+pub fn read_reply(
+    op: u64,
+    major: u16,
+    minor: u8,
+    s: &[u8],
+    words: &mut [u64],
+    bytes: &mut [u8],
+    payload: &mut [u8],
+    numbers: &mut [u64; 12],
+    counts: &mut [u64; 3],
+) -> Said
+    ensures answer { λ r. ⌜ answerOf r (now (numbers .exit)) (now (counts .exit))
+        ≡ replyFilled op (version major minor) (now (s .entry)) (now (words .entry)) (now (bytes .entry)) (now (payload .entry)) .answer ⌝ }
+    ensures words { λ r. ⌜ now (words .exit) ≡ replyFilled op (version major minor) (now (s .entry)) (now (words .entry)) (now (bytes .entry)) (now (payload .entry)) .words ⌝ }
+    ensures bytes { λ r. ⌜ now (bytes .exit) ≡ replyFilled op (version major minor) (now (s .entry)) (now (words .entry)) (now (bytes .entry)) (now (payload .entry)) .bytes ⌝ }
+    ensures payload { λ r. ⌜ now (payload .exit) ≡ replyFilled op (version major minor) (now (s .entry)) (now (words .entry)) (now (bytes .entry)) (now (payload .entry)) .payload ⌝ }
+{
+    let shape = table_operations::reply(op);
+    match shape {
+        Shape::Unknown => walk_judge::refuse(
+            layouts::refuse(layouts::UNKNOWN_OPERATION, 0),
+            numbers,
+            counts,
+        ),
+        Shape::At { first, kind } => {
+            let layout = walk_items::layout(major, minor, first);
+            let b = read_brief(s, layout, kind, numbers, counts);
+            match b {
+                InBrief::Said(said) => said,
+                InBrief::Longer => {
+                    walk_read::read(s, layout, kind, words, bytes, payload, numbers, counts)
+                }
+            }
+        }
+    }
+}

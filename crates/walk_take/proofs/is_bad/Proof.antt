@@ -1,0 +1,18 @@
+-- `walk_take::is_bad` meets its contract: by the role; the text is that of the contents.
+use borrow.Author.Needs.{needs}
+use Rattle.walk_take.proofs.is_bad.Statement.{statement}
+use Rattle.walk_take.proofs.is_bad.Tie as tie
+use denote.Ref.{now}
+use Rattle.walk_take.proofs.Pieces.{any-text, text-judged}
+
+pub is-bad-spec : {M : Type 1} → statement M
+is-bad-spec =
+    tie.close
+    (tie.spec
+    (λ c. any-text (now (c .before .before .args .s)) _ (c .before .before .args .start) (c .before .before .args .len) (c .if1 .taken))
+    (λ c. search needs)
+    (λ c. search needs)
+    (λ c. search needs)
+    (λ c. search needs)
+    (λ c κs. search needs)
+    (λ c. text-judged (now (c .before .before .before .before .args .s)) (c .before .before .before .before .args .role) (c .before .before .before .before .args .start) (c .before .before .before .before .args .len) (c .is-text .result) (c .before .before .if1 .left) (c .is-text .ensures)))

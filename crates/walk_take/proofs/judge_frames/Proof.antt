@@ -1,0 +1,36 @@
+-- `walk_take::judge_frames` meets its contract: chunk by chunk.
+use borrow.Author.Needs.{needs}
+use Rattle.walk_take.proofs.judge_frames.Statement.{statement}
+use Rattle.walk_take.proofs.judge_frames.Tie as tie
+use denote.Ref.{now}
+use Prim.Native.Nat.{_-_}
+use lib.ListN.{length}
+use native.Mathlib.Omega.{arith}
+use Rattle.pieces.proofs.Nodes.{part-found}
+use Rattle.walk_take.proofs.Frames.{Framing, framing-start, framing-wrong, framing-last, last-took, framing-stop, framing-on}
+
+abbrev Inv-loop : tie.InvT-loop
+Inv-loop s from room n at₀ total₀ at total = Framing s room from n at total
+
+abbrev μ-loop : tie.MeasureT-loop
+μ-loop s from room n at₀ total₀ at total = length s - at
+
+pub judge-frames-spec : {M : Type 1} → statement M
+judge-frames-spec =
+    tie.close
+    (tie.spec
+    Inv-loop
+    μ-loop
+    (λ c. framing-start (now (c .before .args .s)) (c .before .args .room) (c .before .args .from) (c .before .args .n))
+    (λ c κs. search needs)
+    (λ c. search needs)
+    (λ c. (framing-wrong (now (c .before .before .before .before .before .before .args .s)) _ _ _ _ _ (c .before .before .before .before .loop .inv) _ (c .before .before .before .chunk-at .ensures) _ (c .before .m .given .1), tt))
+    (λ c. search needs)
+    (λ c. (framing-last (now (c .before .before .before .before .before .before .args .s)) _ _ _ _ _ (c .before .before .before .before .loop .inv) _ (c .before .before .before .chunk-at .ensures) _ (c .before .m2 .given .1), last-took (now (c .before .before .before .before .before .before .args .s)) (c .before .before .before .before .before .before .args .room) _ (c .before .before .before .before .before .before .args .n) _ _ (c .before .before .before .before .loop .inv) _ (c .before .before .before .chunk-at .ensures) _ (c .before .m2 .given .1)))
+    (λ c. search needs)
+    (λ c κs. search needs)
+    (λ c. search needs)
+    (λ c. (framing-stop (now (c .before .before .before .before .before .before .before .before .before .before .args .s)) _ _ _ _ _ (c .before .before .before .before .before .before .before .before .loop .inv) _ (c .before .before .before .before .before .before .before .chunk-at .ensures) _ _ _ (c .before .before .before .before .before .m3 .given .1) _ (c .before .before .before .take-chunk .ensures) _ (c .before .t .given .1), tt))
+    (λ c. search needs)
+    (λ c. omega (arith, part-found (now (c .before .before .before .before .before .before .before .before .before .before .args .s)) _ _ (c .before .before .before .before .before .before .before .chunk-at .ensures) _ _ _ (c .before .before .before .before .before .m3 .given .1)))
+    (λ c. framing-on (now (c .before .before .before .before .before .before .before .before .before .before .args .s)) _ _ _ _ _ (c .before .before .before .before .before .before .before .before .loop .inv) _ (c .before .before .before .before .before .before .before .chunk-at .ensures) _ _ _ (c .before .before .before .before .before .m3 .given .1) _ (c .before .before .before .take-chunk .ensures) _ (c .before .t2 .given .1)))

@@ -1,0 +1,17 @@
+-- `wire::Cursor::read_string_set_bytes` meets its contract: what is judged fine fits.
+use borrow.Author.Needs.{needs}
+use Rattle.wire.proofs.Cursor.read_string_set_bytes.Statement.{statement}
+use Rattle.wire.proofs.Cursor.read_string_set_bytes.Tie as tie
+use denote.Ref.{now}
+use mathlib.Core.Path.{refl}
+use mathlib.Core.List.{[]}
+use Rattle.wire.proofs.Sets.{set-bytes}
+
+pub read-string-set-bytes-spec : {M : Type 1} → statement M
+read-string-set-bytes-spec =
+    tie.close
+    (tie.spec
+    (λ c. search needs)
+    (λ c κs. search needs)
+    (λ c. search needs)
+    (λ c. set-bytes (now (c .before .before .before .before .before .before .before .before .args .s)) _ _ [] _ (now (c .before .before .before .before .before .before .before .before .args .entries)) _ (c .before .before .before .read-set .ensures) refl))

@@ -1,0 +1,16 @@
+-- `wire::judge_framed` meets its contract: by what was judged.
+use borrow.Author.Needs.{needs}
+use Rattle.wire.proofs.judge_framed.Statement.{statement}
+use Rattle.wire.proofs.judge_framed.Tie as tie
+use denote.Ref.{now}
+use Rattle.wire.proofs.Frames.{framed-refused, framed-judged}
+
+pub judge-framed-spec : {M : Type 1} → statement M
+judge-framed-spec =
+    tie.close
+    (tie.spec
+    (λ c κs. search needs)
+    (λ c. search needs)
+    (λ c. search needs)
+    (λ c. framed-refused (now (c .before .before .before .before .before .args .s)) (c .before .before .before .before .before .args .at) _ (c .before .before .before .judge-frames .result) (c .before .before .before .judge-frames .ensures .0) _ (c .before .r .given .1))
+    (λ c. framed-judged (now (c .before .before .before .before .before .args .s)) (c .before .before .before .before .before .args .at) _ (c .before .before .before .judge-frames .result) (c .before .before .before .judge-frames .ensures .0) _ _ (c .before .next .given .1)))
