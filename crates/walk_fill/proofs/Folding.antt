@@ -82,7 +82,7 @@ unfolding roleOf
 cut-here s x₀ at kind i k a c m e q =
     fault-fills s x₀ _ x₀ _ (fills-start s x₀ _ _ refl) 1 at (ap (λ (t : Tree). run t s at) (is-number kind 2 i k a c) ∙ ask-cut s at m e q (slotOf (slotFor kind i)) (λ n. afterNumber kind 2 n k))
 
--- the same of what a row says, or framed data
+-- the same of what a series says, or framed data
 module _ (s ws : List ℕ) (w : ℕ) (bs : List ℕ) (b at kind : ℕ) (r : Listed) (ws' bs' : List ℕ) where
   abbrev SeriesFills : ((Unit {0} → Tree) → Tree) → (from : ℕ) → Type 0
   SeriesFills t from = (ps : List ℕ) (n : ℕ) (k : Unit {0} → Tree) → Fills s (rooms ws w bs b ps n) (run (t k) s from) (listedRooms ws' bs' ps n r) (afterListed s k r)

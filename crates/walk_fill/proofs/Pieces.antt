@@ -101,7 +101,7 @@ pub half-fills : (s : List ℕ) (x₀ : Rooms) (p₀ : Pieces) (x : Rooms) (p : 
 unfolding entriesOf payloadOf
 half-fills s x₀ p₀ x p f r start len e = fills-as s x₀ p₀ x p f nothing (ap entriesOf e) (ap (payloadOf s) e)
 
--- ---- a row of kept strings
+-- ---- a series of kept strings
 module _ (s ws₀ : List ℕ) (w₀ : ℕ) (bs₀ : List ℕ) (b₀ : ℕ) (e from p₀ l₀ : ℕ) where
   pub record Along (ws : List ℕ) (w : ℕ) (bs : List ℕ) (b : ℕ) (at p l : ℕ) : Type 0 where
     pub on : from ≤ at

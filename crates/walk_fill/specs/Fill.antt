@@ -32,7 +32,7 @@ pub record Fills (s : List ℕ) (x₀ : Rooms) (p₀ : Pieces) (x : Rooms) (p : 
 abbrev pub rooms : (words : List ℕ) → ℕ → (bytes : List ℕ) → ℕ → (payload : List ℕ) → ℕ → Rooms
 rooms ws w bs b ps p = record { words = ws; word = w; bytes = bs; byte = b; payload = ps; place = p }
 
--- ---- strings of a row; chunks; a field that is filled in. Where they do not end, nothing is to come
+-- ---- strings of a series; chunks; a field that is filled in. Where they do not end, nothing is to come
 abbrev pub nothing : Pieces
 nothing = fault 0 0
 

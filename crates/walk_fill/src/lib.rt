@@ -23,7 +23,7 @@ pub struct Places {
     pub bytes: usize,
 }
 
-// Where a row of strings ends, with the places after its entries; or only these, where it does not end.
+// Where a series of strings ends, with the places after its entries; or only these, where it does not end.
 enum Listed {
     Past {
         at: usize,
@@ -66,7 +66,7 @@ fn put_chunk(s: &[u8], start: usize, len: usize, out: &mut [u8], filled: usize) 
     walk_rooms::put_bytes(out, filled, &s[start..end])
 }
 
-// The entries of a row of kept strings.
+// The entries of a series of kept strings.
 fn fill_series(
     s: &[u8],
     from: usize,

@@ -1,4 +1,4 @@
--- A row, string by string.
+-- A series, string by string.
 use Prim.Native.Nat.{ℕ, zero, suc, _+_, _-_, _≤_, _<_}
 use mathlib.Core.Path.{_≡_, refl, sym, _∙_, ap, subst}
 use mathlib.Core.List.{List}
@@ -72,7 +72,7 @@ module _ (s : List ℕ) (at n : ℕ) (b : Bool) (e : Expected s at n b) (h : b �
   pub expected-fits : at + 8 + n + padOf n ≤ length s
   expected-fits = text-known (length s) (numberAt s at) at _ (text-told s at _ expected-told _ refl) .3
 
--- the row from a place on, and what the whole comes to
+-- the series from a place on, and what the whole comes to
 pub record Passing (s : List ℕ) (e from p₀ l₀ at p l : ℕ) : Type 0 where
   pub on : from ≤ at
   pub same : (b : Bool) (m : Role) → stays b m ≡ false → (k : Unit {0} → Tree) → bare b (run (series m p₀ e l₀ k) s from) ≡ bare b (run (series m p e l k) s at)
@@ -135,7 +135,7 @@ skip-bare b (chunk start len p) = skip-chunk b start len (bare b p) ∙ skip-bar
 skip-bare b (end place) = refl
 skip-bare b (fault which place) = refl
 
--- a row that is skipped
+-- a series that is skipped
 pub series-skips : (s : List ℕ) (e from p l : ℕ) (r : P.Passed) → ((b : Bool) (m : Role) → stays b m ≡ false → Passes b s from (series m p e l) r)
     → (k : Unit {0} → Tree) → skipOf (run (series passed p e l k) s from) ≡ skipOf (passedTo r (λ a. bare false (run (k tt) s a)))
 series-skips s e from p l r h k = sym (skip-bare false (run (series passed p e l k) s from)) ∙ ap skipOf (h false passed refl k)

@@ -1,4 +1,4 @@
--- The contracts have one answer. That of `pass`: where nothing follows the row, it says where the row ends.
+-- The contracts have one answer. That of `pass`: where nothing follows the series, it says where the series ends.
 use Prim.Native.Nat.{ℕ}
 use mathlib.Core.Path.{_≡_, refl, sym, _∙_, ap}
 use contract.Lifetimes.{Lfts}

@@ -1,4 +1,4 @@
--- A row of strings as a tree, and what is left of it.
+-- A series of strings as a tree, and what is left of it.
 use Prim.Native.Nat.{ℕ, _+_, _-_, _≤_}
 use mathlib.Core.Path.{_≡_}
 use mathlib.Core.List.{List}

@@ -12,13 +12,13 @@ use pieces::Text;
 // From here on a length is seldom in the first-level cache when its turn comes.
 const LONG: usize = 256;
 
-// Where the row ends, or its first refusal.
+// Where the series ends, or its first refusal.
 pub enum Passed {
     Past(usize),
     Refused(Refusal),
 }
 
-// What is left of a row after its next string, if it has one.
+// What is left of a series after its next string, if it has one.
 pub enum More {
     String { pend: u64, left: u64 },
     None,

@@ -1,4 +1,4 @@
--- A string, and a row of strings, one after the other: what is left, with the entries so far, is judged and kept as the whole.
+-- A string, and a series of strings, one after the other: what is left, with the entries so far, is judged and kept as the whole.
 use Prim.Native.Nat.{ℕ, _+_, _≤_}
 use mathlib.Core.Path.{_≡_, refl, sym, _∙_, ap, subst}
 use mathlib.Core.List.{List}
@@ -87,7 +87,7 @@ module _ (s : List ℕ) (slots at : ℕ) (m : Role) (w : List ℕ) (n : ℕ) (t 
           holds = λ k. held-as (K.Fine n') i k ∙ kept (keptOf s slots n' (run (k tt) s next));
         }
 
--- ---- a row of them
+-- ---- a series of them
 pub series-took : (s : List ℕ) (at : ℕ) (r : Series) (at' n : ℕ) → SeriesTook s at r → r ≡ O.Past at' n → (at + 8 ≤ at') × (at + 8 ≤ length s)
 series-took s at r at' n o i = subst (SeriesTook s at) i o
 

@@ -1,4 +1,4 @@
--- What becomes of a string, of a row of strings, of framed data.
+-- What becomes of a string, of a series of strings, of framed data.
 use Prim.Native.Nat.{ℕ, _+_, _-_, _*_, _≤_}
 use mathlib.Core.Path.{_≡_}
 use lib.ListN.{length, take}

@@ -1,4 +1,4 @@
-// A string, a row of strings, framed data, a number that is dropped: judged one by one, for the fold of `walk_judge`. Text and room are judged here, and not by the
+// A string, a series of strings, framed data, a number that is dropped: judged one by one, for the fold of `walk_judge`. Text and room are judged here, and not by the
 // iterator. The first entries go into a window.
 ghost use mathlib.Core.Path.{_≡_};
 ghost use Prim.Native.Nat.{ℕ, _+_, _-_, _≤_};
@@ -28,7 +28,7 @@ enum Taken {
     Refused(Refusal),
 }
 
-// Where a row of strings ends, and the entries then; or its first refusal.
+// Where a series of strings ends, and the entries then; or its first refusal.
 pub enum Series {
     Past { at: usize, entries: usize },
     Refused(Refusal),
@@ -105,7 +105,7 @@ fn half_string(s: &[u8], role: u8, start: usize, len: usize) -> Refusal
     layouts::refuse(layouts::CUT_SHORT, start + len)
 }
 
-// A row of strings, with n entries before it: where it ends, and the entries then.
+// A series of strings, with n entries before it: where it ends, and the entries then.
 pub fn judge_series(
     s: &[u8],
     from: usize,

@@ -1,4 +1,4 @@
--- `walk_fill::fill_strings` meets its contract: one string, or a count and a row.
+-- `walk_fill::fill_strings` meets its contract: one string, or a count and a series.
 use borrow.Author.Needs.{needs}
 use Rattle.walk_fill.proofs.fill_strings.Statement.{statement}
 use Rattle.walk_fill.proofs.fill_strings.Tie as tie

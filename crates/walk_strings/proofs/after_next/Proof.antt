@@ -1,4 +1,4 @@
--- `walk_strings::after_next` meets its contract: by what is left of the row.
+-- `walk_strings::after_next` meets its contract: by what is left of the series.
 use borrow.Author.Needs.{needs}
 use Rattle.walk_strings.proofs.after_next.Statement.{statement}
 use Rattle.walk_strings.proofs.after_next.Tie as tie

@@ -1,4 +1,4 @@
--- `walk_strings::pass` meets its contract: skipping what is left of the row is skipping the whole.
+-- `walk_strings::pass` meets its contract: skipping what is left of the series is skipping the whole.
 use borrow.Author.Needs.{needs}
 use Rattle.walk_strings.proofs.pass.Statement.{statement}
 use Rattle.walk_strings.proofs.pass.Tie as tie
