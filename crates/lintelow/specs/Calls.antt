@@ -3,12 +3,12 @@ use Prim.Native.Nat.{ℕ, _/_}
 use mathlib.Core.List.{List, []}
 use lib.ListN.{length}
 use Rattle.layouts.specs.Primitive.{Version, Result}
-use Rattle.layouts.specs.Pieces.{Pieces, run}
+use Rattle.layouts.specs.Pieces.{run}
 use Rattle.layouts.specs.Record.{blank}
-use Rattle.layouts.specs.Judge.{lentAfter}
+use Rattle.layouts.specs.Judge.{entriesOf, payloadOf, lentAfter}
 use Rattle.layouts.specs.Calls as L
-use Rattle.layouts.specs.Calls.{argumentsTree, replyTree, readOpArgs, readDaemonResult, payloadAfter, readStringSet, readFramed}
-use Rattle.layouts.specs.Stderr.{readStderrWithError}
+use Rattle.layouts.specs.Calls.{argumentsTree, skippedTree, replyTree, readOpArgs, readDaemonResult, skipOpArgs, readStringSet, readFramed}
+use Rattle.layouts.specs.Stderr.{stderrLoop, readStderrWithError, errorPieces}
 use Rattle.layouts.specs.Handshake.{hear, heardEntries, handshake, daemonHandshake, parseHandshake, parseDaemonHandshake}
 use Rattle.layouts.specs.Writers.{textsOf, writeStringSet, outputOf}
 use Rattle.writers_output.specs.Numbers.{bytesOf}
@@ -16,9 +16,8 @@ use Rattle.entries.specs.Entries.{entriesIn}
 use Rattle.walk_judge.specs.declared.Answer.{Answer}
 use Rattle.walk_judge.specs.Judged.{answerAs}
 use Rattle.wire.specs.Answers.{setEntries, framedPayload}
-use Rattle.stderr.specs.Loop.{errorEntries}
-use Rattle.protocol.specs.Bytes.{bytesAfter}
 use Rattle.lintelow_answers.specs.Answers.{ended, written}
+use Rattle.lintelow_answers.specs.Skips.{stringSkipped}
 use Rattle.lintelow_answers.specs.Block.{guarded, numberOf, blockAfter}
 
 -- a call that is lent one room beside the block: judged as o, of which f makes the answer, it reports new
@@ -37,24 +36,32 @@ pub record ReadCalled : Type 0 where
   pub entries : List ℕ
   pub payload : List ℕ
 
-abbrev pub readCalled : (block : List ℕ) → Result L.Answer → List ℕ → Pieces → (entries payload : List ℕ) → ReadCalled
-readCalled block o s p entries payload =
+abbrev pub readCalled : (block : List ℕ) → Result L.Answer → (es ps : List ℕ) → (entries payload : List ℕ) → ReadCalled
+readCalled block o es ps entries payload =
     record {
       number = numberOf block (answerAs o);
       block = blockAfter block (answerAs o);
-      entries = bytesAfter (guarded block o) p entries;
-      payload = payloadAfter (guarded block o) s p payload;
+      entries = lentAfter (guarded block o) es entries;
+      payload = lentAfter (guarded block o) ps payload;
     }
 
 -- ---- the calls. Sixteen bytes make a slot
 abbrev pub argumentsCalled : (op : ℕ) → Version → (s entries payload block : List ℕ) → ReadCalled
-argumentsCalled op v s entries payload block = readCalled block (readOpArgs op v s (length entries / 16) (length payload)) s (run (argumentsTree op v) s 0) entries payload
+argumentsCalled op v s entries payload block =
+    readCalled block (readOpArgs op v s (length entries / 16) (length payload))
+    (bytesOf (entriesOf (run (argumentsTree op v) s 0))) (payloadOf s (run (argumentsTree op v) s 0)) entries payload
 
 abbrev pub replyCalled : (op : ℕ) → Version → (s entries payload block : List ℕ) → ReadCalled
-replyCalled op v s entries payload block = readCalled block (readDaemonResult op v s (length entries / 16) (length payload)) s (run (replyTree op v) s 0) entries payload
+replyCalled op v s entries payload block =
+    readCalled block (readDaemonResult op v s (length entries / 16) (length payload))
+    (bytesOf (entriesOf (run (replyTree op v) s 0))) (payloadOf s (run (replyTree op v) s 0)) entries payload
+
+-- arguments that are skipped: no room is lent, and the one string stands in the block
+abbrev pub argumentsSkipped : (op : ℕ) → Version → List ℕ → Answer
+argumentsSkipped op v s = answerAs (stringSkipped (skipOpArgs op v s) (entriesOf (run (skippedTree op v) s 0)))
 
 abbrev pub errorCalled : (s entries block : List ℕ) → Called
-errorCalled s entries block = called block answerAs (readStderrWithError s (length entries / 16)) (bytesOf (errorEntries s)) entries
+errorCalled s entries block = called block answerAs (readStderrWithError s (length entries / 16)) (bytesOf (entriesOf (errorPieces s (stderrLoop s)))) entries
 
 abbrev pub handshakeCalled : (client daemon entries block : List ℕ) → Called
 handshakeCalled client daemon entries block =

@@ -5,9 +5,9 @@ ghost use Rattle.layouts.specs.Primitive.{version};
 ghost use Rattle.layouts.specs.Calls.{skipDaemonResult};
 ghost use Rattle.layouts.specs.Stderr.{readStderrLoop};
 ghost use Rattle.walk_judge.specs.Judged.{answerAs};
-ghost use Rattle.lintelow_answers.specs.Skips.{argumentsSkipped, resultSkipped};
+ghost use Rattle.lintelow_answers.specs.Skips.{resultSkipped};
 ghost use Rattle.lintelow_answers.specs.Block.{numberOf, blockAfter};
-ghost use Rattle.lintelow.specs.Calls.{argumentsCalled, replyCalled, errorCalled, handshakeCalled, daemonCalled};
+ghost use Rattle.lintelow.specs.Calls.{argumentsCalled, replyCalled, argumentsSkipped, errorCalled, handshakeCalled, daemonCalled};
 
 pub mod reads;
 pub mod writes;
@@ -42,7 +42,7 @@ pub extern "C" fn lintelow_read_op_args(
         &mut numbers,
         &mut counts,
     );
-    lintelow_answers::put_said(block, said, numbers, counts)
+    lintelow_answers::put(block, walk_judge::answer_of(said, numbers, counts))
 }
 
 #[no_mangle]
@@ -75,7 +75,7 @@ pub extern "C" fn lintelow_read_daemon_result(
         &mut numbers,
         &mut counts,
     );
-    lintelow_answers::put_said(block, said, numbers, counts)
+    lintelow_answers::put(block, walk_judge::answer_of(said, numbers, counts))
 }
 
 // No room is lent: start and length of the one string are numbers 1 and 2 of the block's twelve.
@@ -87,8 +87,8 @@ pub extern "C" fn lintelow_skip_op_args(
     s: &[u8],
     block: &mut [u8],
 ) -> u64
-    ensures number { λ r. ⌜ r ≡ numberOf (now (block .entry)) (answerAs (argumentsSkipped op (version major minor) (now (s .entry)))) ⌝ }
-    ensures block { λ r. ⌜ now (block .exit) ≡ blockAfter (now (block .entry)) (answerAs (argumentsSkipped op (version major minor) (now (s .entry)))) ⌝ }
+    ensures number { λ r. ⌜ r ≡ numberOf (now (block .entry)) (argumentsSkipped op (version major minor) (now (s .entry))) ⌝ }
+    ensures block { λ r. ⌜ now (block .exit) ≡ blockAfter (now (block .entry)) (argumentsSkipped op (version major minor) (now (s .entry))) ⌝ }
 {
     let passed = lintelow_answers::skip_op_args(op, major, minor, s);
     lintelow_answers::put(block, passed)

@@ -1,6 +1,5 @@
 -- The answer of a call as a block of 25 numbers, for the C boundary.
 use Prim.Native.Nat.{ℕ}
-use mathlib.Core.Path.{_≡_}
 use mathlib.Core.List.{List, [], _∷_, _++_}
 use lib.ListN.{length, getD, drop}
 use lib.Dec.{leb}
@@ -8,8 +7,6 @@ use Rattle.layouts.specs.Primitive.{pick, outputFull, Result, refused}
 use Rattle.walk_judge.specs.declared.Outcome.{Outcome}
 use Rattle.walk_judge.specs.declared.Outcome.the-variants.{Fine, Refused}
 use Rattle.walk_judge.specs.declared.Answer.{Answer}
-use Rattle.walk_judge.specs.declared.Said.{Said}
-use Rattle.walk_judge.specs.Judged.{answerOf}
 use Rattle.writers_output.specs.Numbers.{bytesOf}
 
 abbrev pub refusalOf : Outcome → List ℕ
@@ -21,17 +18,6 @@ abbrev pub numbersOf : Answer → List ℕ
 numbersOf a =
     refusalOf (a .outcome) ++
     (a .kind ∷ a .ends ∷ a .ends2 ∷ a .found .entries ∷ a .found .payload ∷ (a .found .numbers ++ (a .found .counts ++ (0 ∷ 0 ∷ []))))
-
--- ---- its parts
-abbrev pub headOf : Answer → List ℕ
-headOf a = refusalOf (a .outcome) ++ (a .kind ∷ a .ends ∷ a .ends2 ∷ a .found .entries ∷ a .found .payload ∷ [])
-
--- the head knows no numbers and no counts
-abbrev pub HeadSaid : Said → List ℕ → Type 0
-HeadSaid said h = (ns cs : List ℕ) → h ≡ headOf (answerOf said ns cs)
-
-abbrev pub partsOf : (head numbers counts : List ℕ) → List ℕ
-partsOf h ns cs = h ++ (ns ++ (cs ++ (0 ∷ 0 ∷ [])))
 
 -- ---- what a call at the boundary does, by what it has to say
 -- a block that is too short is refused before all else

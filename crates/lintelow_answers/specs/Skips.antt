@@ -5,11 +5,9 @@ use mathlib.Core.Bool.{false}
 use lib.ListN.{getD, replicate}
 use lib.Dec.{eqb}
 use Rattle.layouts.specs.declared.Record.{Record}
-use Rattle.layouts.specs.Primitive.{pick, Version, Result, ok, refused}
+use Rattle.layouts.specs.Primitive.{pick, Result, ok, refused}
 use Rattle.layouts.specs.Record.{blank}
-use Rattle.layouts.specs.Pieces.{run}
-use Rattle.layouts.specs.Judge.{entriesOf}
-use Rattle.layouts.specs.Calls.{Answer, skippedTree, skipOpArgs}
+use Rattle.layouts.specs.Calls.{Answer}
 
 -- number 0 is the count, numbers 1 and 2 are start and length of the one string, which is reported where the kind is 2
 abbrev pub stringRecord : (kind count start len : ℕ) → Record
@@ -20,9 +18,6 @@ abbrev pub stringSkipped : Result Answer → (entries : List ℕ) → Result Ans
 stringSkipped (ok x) es =
     ok (record { kind = x .kind; ends = x .ends; ends2 = 0; found = stringRecord (x .kind) (getD (x .found .numbers) 0 0) (getD es 0 0) (getD es 1 0) })
 stringSkipped (refused which place stream) es = refused which place stream
-
-abbrev pub argumentsSkipped : (op : ℕ) → Version → List ℕ → Result Answer
-argumentsSkipped op v s = stringSkipped (skipOpArgs op v s) (entriesOf (run (skippedTree op v) s 0))
 
 abbrev pub resultSkipped : Result ℕ → Result Answer
 resultSkipped (ok e) = ok (record { kind = 0; ends = e; ends2 = 0; found = blank })

@@ -1,27 +1,28 @@
 // What the skippers, the readers of one field, the writers and the tests say, as whole answers for the C boundary; and an answer as a block of 25 numbers of eight bytes.
 ghost use mathlib.Core.Path.{_≡_};
 ghost use Rattle.layouts.specs.Primitive.{ok, pick, version};
-ghost use Rattle.walk_judge.specs.Judged.{answerOf, answerAs};
+ghost use Rattle.walk_judge.specs.Judged.{answerAs};
 ghost use Rattle.wire.specs.Answers.{numberRead, countRead, totalRead, peeked, spanned, skippedTo};
 ghost use Rattle.writers_output.specs.Answer.{meaning};
 ghost use Rattle.versions.specs.Handshake.{versionOf};
 ghost use Rattle.entries.specs.Entries.{found};
 ghost use Rattle.lintelow_answers.specs.Answers.{answer, numbered, ended, passedTo, stringRead, peekedAt, written, yesNo, entryTold, framedSaid, versionTold};
-ghost use Prim.Native.Nat.{_+_, _*_, _≤_};
+ghost use Prim.Native.Nat.{_*_, _≤_};
 ghost use lib.ListN.{length};
 ghost use Rattle.writers_output.specs.Numbers.{bytesOf};
 ghost use Rattle.writers_output.specs.Placed.{placed};
-ghost use Rattle.lintelow_answers.specs.Block.{refusalOf, headOf, HeadSaid, partsOf, numberOf, blockAfter};
+ghost use Rattle.lintelow_answers.specs.Block.{refusalOf, numbersOf, numberOf, blockAfter};
 ghost use lib.Dec.{eqb};
-ghost use Rattle.layouts.specs.Calls.{skipDaemonResult};
-ghost use Rattle.lintelow_answers.specs.Skips.{argumentsSkipped, resultSkipped};
+ghost use Rattle.layouts.specs.Pieces.{run};
+ghost use Rattle.layouts.specs.Judge.{entriesOf};
+ghost use Rattle.layouts.specs.Calls.{skippedTree, skipOpArgs, skipDaemonResult};
+ghost use Rattle.lintelow_answers.specs.Skips.{stringSkipped, resultSkipped};
 use entries::Located;
 use layouts::Record;
 use table_operations::Framed;
 use versions::ProtocolVersion;
 use walk_judge::Answer;
 use walk_judge::Outcome;
-use walk_judge::Said;
 use walk_strings::Passed;
 use wire::Peeked;
 use wire::Read;
@@ -179,12 +180,13 @@ fn refusal(o: Outcome) -> [u64; 3]
     }
 }
 
-// The first eight numbers of the block: number, place and stream of a refusal; kind, ends; how many entries and payload bytes.
-fn head(a: Answer) -> [u64; 8]
-    ensures { λ r. ⌜ (r ≡ headOf a) × (length r ≡ 8) ⌝ }
+fn numbers(a: Answer) -> [u64; 25]
+    ensures { λ r. ⌜ (r ≡ numbersOf a) × (length r ≡ 25) ⌝ }
 {
     let o = a.outcome;
     let found = a.found;
+    let n = found.numbers;
+    let c = found.counts;
     let r = refusal(o);
     [
         r[0],
@@ -195,56 +197,35 @@ fn head(a: Answer) -> [u64; 8]
         a.ends2 as u64,
         found.entries as u64,
         found.payload as u64,
+        n[0],
+        n[1],
+        n[2],
+        n[3],
+        n[4],
+        n[5],
+        n[6],
+        n[7],
+        n[8],
+        n[9],
+        n[10],
+        n[11],
+        c[0],
+        c[1],
+        c[2],
+        0,
+        0,
     ]
 }
 
-// The same of what is said without its numbers and counts.
-fn head_said(said: Said) -> [u64; 8]
-    ensures { λ r. ⌜ HeadSaid said r × (length r ≡ 8) ⌝ }
-{
-    match said {
-        Said::Fine {
-            kind,
-            ends,
-            ends2,
-            entries,
-            payload,
-            present: _,
-        } => [
-            0,
-            0,
-            0,
-            kind,
-            ends as u64,
-            ends2 as u64,
-            entries as u64,
-            payload as u64,
-        ],
-        Said::Refused(r) => [r.which, r.place as u64, r.stream, 0, 0, 0, 0, 0],
-    }
-}
-
-// Numbers from a place of the block on.
-fn put_numbers(out: &mut [u8], at: usize, ns: &[u64])
-    requires { ⌜ at + 8 * length (now ns) ≤ length (now out) ⌝ }
-    ensures { λ r. ⌜ now (out .exit) ≡ placed at (bytesOf (now (ns .entry))) (now (out .entry)) ⌝ }
+fn put_numbers(out: &mut [u8], ns: &[u64])
+    requires { ⌜ 8 * length (now ns) ≤ length (now out) ⌝ }
+    ensures { λ r. ⌜ now (out .exit) ≡ placed 0 (bytesOf (now (ns .entry))) (now (out .entry)) ⌝ }
 {
     let mut i: usize = 0;
     while i < ns.len() {
-        writers_output::put_number(out, at + 8 * i, ns[i]);
+        writers_output::put_number(out, 8 * i, ns[i]);
         i += 1;
     }
-}
-
-// The head, twelve numbers, three counts, and two numbers that are kept for later.
-fn put_parts(block: &mut [u8], head: &[u64; 8], numbers: &[u64; 12], counts: &[u64; 3])
-    requires { ⌜ 200 ≤ length (now block) ⌝ }
-    ensures { λ r. ⌜ now (block .exit) ≡ placed 0 (bytesOf (partsOf (now (head .entry)) (now (numbers .entry)) (now (counts .entry)))) (now (block .entry)) ⌝ }
-{
-    put_numbers(block, 0, head);
-    put_numbers(block, 64, numbers);
-    put_numbers(block, 160, counts);
-    put_numbers(block, 184, &[0, 0]);
 }
 
 // The answer into the block; its first number, 0 or the refusal's, is also returned. A block that is too short stays as it is.
@@ -255,25 +236,9 @@ pub fn put(block: &mut [u8], a: Answer) -> u64
     if block.len() < BLOCK {
         return layouts::OUTPUT_FULL;
     }
-    let h = head(a);
-    let found = a.found;
-    let numbers = found.numbers;
-    let counts = found.counts;
-    put_parts(block, &h, &numbers, &counts);
-    h[0]
-}
-
-// The same of what is said, with its numbers and counts beside it.
-pub fn put_said(block: &mut [u8], said: Said, numbers: [u64; 12], counts: [u64; 3]) -> u64
-    ensures number { λ r. ⌜ r ≡ numberOf (now (block .entry)) (answerOf said numbers counts) ⌝ }
-    ensures block { λ r. ⌜ now (block .exit) ≡ blockAfter (now (block .entry)) (answerOf said numbers counts) ⌝ }
-{
-    if block.len() < BLOCK {
-        return layouts::OUTPUT_FULL;
-    }
-    let h = head_said(said);
-    put_parts(block, &h, &numbers, &counts);
-    h[0]
+    let ns = numbers(a);
+    put_numbers(block, &ns);
+    ns[0]
 }
 
 // The kind of skipped arguments that answer one string.
@@ -290,7 +255,7 @@ fn entries_of(kind: u64) -> usize
 
 // The count is number 0; start and length of the one string are numbers 1 and 2.
 pub fn skip_op_args(op: u64, major: u16, minor: u8, s: &[u8]) -> Answer
-    ensures { λ r. ⌜ r ≡ answerAs (argumentsSkipped op (version major minor) (now (s .entry))) ⌝ }
+    ensures { λ r. ⌜ r ≡ answerAs (stringSkipped (skipOpArgs op (version major minor) (now (s .entry))) (entriesOf (run (skippedTree op (version major minor)) (now (s .entry)) 0))) ⌝ }
 {
     let a = protocol::skip_op_args(op, major, minor, s);
     let o = a.outcome;

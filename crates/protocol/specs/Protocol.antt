@@ -4,23 +4,25 @@ use mathlib.Core.List.{List}
 use lib.ListN.{length, getD}
 use Rattle.layouts.specs.Primitive.{Version, Result, ok, refused}
 use Rattle.layouts.specs.Refusal.{refusal}
-use Rattle.layouts.specs.Pieces.{Pieces, run}
-use Rattle.layouts.specs.Calls.{Answer, argumentsTree, replyTree, readOpArgs, readDaemonResult, entriesAfter, payloadAfter}
+use Rattle.layouts.specs.Pieces.{run}
+use Rattle.layouts.specs.Judge.{entriesOf, payloadOf}
+use Rattle.layouts.specs.Calls.{Answer, argumentsTree, replyTree, readOpArgs, readDaemonResult}
 use Rattle.walk_judge.specs.declared.Outcome.the-variants.{Fine, Refused}
 use Rattle.walk_judge.specs.declared.Answer as C
 use Rattle.walk_judge.specs.Judged.{answerAs}
-use Rattle.walk_rooms.specs.Rooms.{LentRead}
+use Rattle.walk_rooms.specs.Rooms.{LentRead, lentRead}
 use Rattle.protocol.specs.declared.Arguments.{Arguments}
 
 -- ---- a read: the answer, and the two lent slices afterwards. Two numbers make a slot
-abbrev pub piecesRead : Result Answer → List ℕ → Pieces → (entries payload : List ℕ) → LentRead C.Answer
-piecesRead o s p entries payload = record { answer = answerAs o; entries = entriesAfter o p entries; payload = payloadAfter o s p payload }
-
 abbrev pub argumentsRead : (op : ℕ) → Version → (s entries payload : List ℕ) → LentRead C.Answer
-argumentsRead op v s entries payload = piecesRead (readOpArgs op v s (length entries / 2) (length payload)) s (run (argumentsTree op v) s 0) entries payload
+argumentsRead op v s entries payload =
+    lentRead answerAs (readOpArgs op v s (length entries / 2) (length payload))
+    (entriesOf (run (argumentsTree op v) s 0)) (payloadOf s (run (argumentsTree op v) s 0)) entries payload
 
 abbrev pub replyRead : (op : ℕ) → Version → (s entries payload : List ℕ) → LentRead C.Answer
-replyRead op v s entries payload = piecesRead (readDaemonResult op v s (length entries / 2) (length payload)) s (run (replyTree op v) s 0) entries payload
+replyRead op v s entries payload =
+    lentRead answerAs (readDaemonResult op v s (length entries / 2) (length payload))
+    (entriesOf (run (replyTree op v) s 0)) (payloadOf s (run (replyTree op v) s 0)) entries payload
 
 -- skipped arguments: the count is number 0, the one string the entry that was kept
 abbrev pub argumentsAs : Result Answer → (entries : List ℕ) → Arguments

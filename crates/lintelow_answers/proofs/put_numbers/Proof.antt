@@ -7,10 +7,10 @@ use lib.ListN.{length}
 use Rattle.lintelow_answers.proofs.Laws.{Putting, putting-none, putting-more, putting-all}
 
 abbrev Inv-loop : tie.InvT-loop
-Inv-loop out₀ at ns i₀ out i = Putting out₀ at ns out i
+Inv-loop out₀ ns i₀ out i = Putting out₀ ns out i
 
 abbrev μ-loop : tie.MeasureT-loop
-μ-loop out₀ at ns i₀ out i = length ns - i
+μ-loop out₀ ns i₀ out i = length ns - i
 
 pub put-numbers-spec : {M : Type 1} → statement M
 put-numbers-spec =
@@ -18,14 +18,13 @@ put-numbers-spec =
     (tie.spec
     Inv-loop
     μ-loop
-    (λ c. putting-none _ _ _ (c .before .before .pre))
-    (λ c. search needs)
+    (λ c. putting-none _ _ (c .before .before .pre))
     (λ c. search needs)
     (λ c. search needs)
     (λ c. search needs)
     (λ c κs. search needs)
     (λ c. search needs)
     (λ c. search needs)
-    (λ c. putting-more _ _ _ _ _ (c .before .before .before .before .before .before .loop .inv) _ (c .before .before .before .before .before .loop-test .taken) (c .before .before .put-number .ensures))
+    (λ c. putting-more _ _ _ _ (c .before .before .before .before .before .before .loop .inv) _ (c .before .before .before .before .before .loop-test .taken) (c .before .before .put-number .ensures))
     (λ c. c .before .loop .inv .size)
-    (λ c. putting-all _ _ _ _ _ (c .before .loop .inv) (c .loop-test .left)))
+    (λ c. putting-all _ _ _ _ (c .before .loop .inv) (c .loop-test .left)))
