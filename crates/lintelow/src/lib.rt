@@ -42,7 +42,7 @@ pub extern "C" fn lintelow_read_op_args(
         &mut numbers,
         &mut counts,
     );
-    lintelow_answers::put(block, walk_judge::answer_of(said, numbers, counts))
+    lintelow_answers::put_said(block, said, numbers, counts)
 }
 
 #[no_mangle]
@@ -75,7 +75,7 @@ pub extern "C" fn lintelow_read_daemon_result(
         &mut numbers,
         &mut counts,
     );
-    lintelow_answers::put(block, walk_judge::answer_of(said, numbers, counts))
+    lintelow_answers::put_said(block, said, numbers, counts)
 }
 
 // No room is lent: start and length of the one string are numbers 1 and 2 of the block's twelve.

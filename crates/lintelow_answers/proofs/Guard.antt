@@ -7,20 +7,21 @@ use lib.ListN.{length}
 use borrow.Author.Tests.{le-leb, lt-leb}
 use Rattle.layouts.specs.Primitive.{pick, outputFull, Result, refused}
 use Rattle.layouts.specs.Judge.{lentAfter}
+use Rattle.layouts.specs.Calls as L
 use Rattle.walk_judge.specs.declared.Answer.{Answer}
 use Rattle.walk_judge.specs.Judged.{answerAs}
 use Rattle.writers_output.specs.declared.Written.{Written}
 use Rattle.writers_output.specs.Answer.{meaning}
 use Rattle.lintelow_answers.specs.Answers.{written}
-use Rattle.lintelow_answers.specs.Block.{guarded, numberOf, blockAfter}
+use Rattle.lintelow_answers.specs.Block.{guarded, numbersOf, numberOf, blockAfter}
 use Rattle.lintelow_answers.proofs.Laws.{put-short}
 
 module _ (block : List ℕ) (b : Answer) where
   pub short-number : length block < 200 → 10 ≡ numberOf block b
-  short-number h = put-short b block h .0
+  short-number h = put-short block (numbersOf b) h .0
 
   pub short-block : length block < 200 → block ≡ blockAfter block b
-  short-block h = put-short b block h .1
+  short-block h = put-short block (numbersOf b) h .1
 
   pub told-number : (a : Answer) (r : ℕ) → a ≡ b → r ≡ numberOf block a → r ≡ numberOf block b
   told-number a r e q = q ∙ ap (numberOf block) e
@@ -57,3 +58,25 @@ module _ (block : List ℕ) (o : Result ℕ) (new lent : List ℕ) where
   pub write-long : 200 ≤ length block → (w : Written) (out : List ℕ) → (meaning w ≡ o) × (out ≡ lentAfter o new lent) → (a : Answer) → a ≡ answerAs (written (meaning w))
       → (r : ℕ) (after : List ℕ) → (r ≡ numberOf block a) × (after ≡ blockAfter block a) → Called (λ x. answerAs (written x)) block o new lent r after out
   write-long h w out f a e r after p = called-long (λ x. answerAs (written x)) block o new lent h a (e ∙ ap (λ (x : Result ℕ). answerAs (written x)) (f .0)) r after p out (f .1)
+
+-- a call that lends two rooms: number, block, entries and payload
+module _ (block : List ℕ) (o : Result L.Answer) (es ps entries payload : List ℕ) where
+  abbrev ReadCalled : (number : ℕ) → (after entries' payload' : List ℕ) → Type 0
+  ReadCalled r after entries' payload' =
+      (r ≡ numberOf block (answerAs o)) × ((after ≡ blockAfter block (answerAs o)) ×
+      ((entries' ≡ lentAfter (guarded block o) es entries) × (payload' ≡ lentAfter (guarded block o) ps payload)))
+
+  pub read-short : length block < 200 → ReadCalled 10 block entries payload
+  read-short h =
+      (short-number block (answerAs o) h, (short-block block (answerAs o) h, (short-lent block o es entries h, short-lent block o ps payload h)))
+
+  pub read-long : 200 ≤ length block → (a : Answer) (entries' payload' : List ℕ)
+      → (a ≡ answerAs o) × ((entries' ≡ lentAfter o es entries) × (payload' ≡ lentAfter o ps payload))
+      → (r : ℕ) (after : List ℕ) → (r ≡ numberOf block a) × (after ≡ blockAfter block a) → ReadCalled r after entries' payload'
+  read-long h a entries' payload' e r after p = (
+    told-number block (answerAs o) a r (e .0) (p .0),
+    (
+      told-block block (answerAs o) a after (e .0) (p .1),
+      (long-lent block o es entries h entries' (e .1 .0), long-lent block o ps payload h payload' (e .1 .1)),
+    ),
+  )

@@ -9,12 +9,18 @@ use lib.Seq.{sets-eq, drop-cons, take-all}
 use borrow.Author.Tests.{le-leb, lt-leb}
 use Rattle.layouts.specs.Primitive.{pick, numberBytes}
 use Rattle.layouts.proofs.Little.{length-number}
+use Rattle.layouts.specs.declared.Refusal.{Refusal}
 use Rattle.walk_judge.specs.declared.Answer.{Answer}
+use Rattle.walk_judge.specs.declared.Outcome.{Outcome}
+use Rattle.walk_judge.specs.declared.Outcome.the-variants.{Fine, Refused}
+use Rattle.walk_judge.specs.declared.Said.{Said}
+use Rattle.walk_judge.specs.declared.Said.the-variants as S
+use Rattle.walk_judge.specs.Judged.{answerOf}
 use Rattle.writers_output.specs.Numbers.{bytesOf}
 use Rattle.writers_output.specs.Placed.{placed}
 use Rattle.writers_output.proofs.Laws.{placed-fits, Filling, filling-start, filling-turn, filling-end}
 use Rattle.writers_output.proofs.Numbers.{bytes-none, bytes-length, bytes-step}
-use Rattle.lintelow_answers.specs.Block.{refusalOf, numbersOf, numberOf, blockAfter}
+use Rattle.lintelow_answers.specs.Block.{refusalOf, numbersOf, headOf, blockOf, numberPut, blockPut}
 
 -- n elements from k on, by their indices
 abbrev span : ℕ → ℕ → List ℕ → List ℕ
@@ -30,16 +36,33 @@ span-take (suc n) k xs h =
 span-all : (n : ℕ) (xs : List ℕ) → length xs ≡ n → span n 0 xs ≡ xs
 span-all n xs e = sym (span-take n 0 xs (omega arith)) ∙ take-all n xs (omega arith)
 
-module _ (a : Answer) where
-  abbrev rest : (ns cs : List ℕ) → List ℕ
-  rest ns cs = a .kind ∷ a .ends ∷ a .ends2 ∷ a .found .entries ∷ a .found .payload ∷ (ns ++ (cs ++ (0 ∷ 0 ∷ [])))
+-- the parts of a block, each by its indices
+pub block-by : (hs ns cs : List ℕ) → length hs ≡ 8 → length ns ≡ 12 → length cs ≡ 3 → blockOf (span 8 0 hs) (span 12 0 ns) (span 3 0 cs) ≡ blockOf hs ns cs
+block-by hs ns cs k l m =
+    ap (λ (x : List ℕ). blockOf x (span 12 0 ns) (span 3 0 cs)) (span-all 8 hs k) ∙
+    ap (λ (x : List ℕ). blockOf hs x (span 3 0 cs)) (span-all 12 ns l) ∙ ap (λ (x : List ℕ). blockOf hs ns x) (span-all 3 cs m)
 
-  pub numbers-by : (rs : List ℕ) → (rs ≡ refusalOf (a .outcome)) × (length rs ≡ 3) → length (a .found .numbers) ≡ 12 → length (a .found .counts) ≡ 3
-      → span 3 0 rs ++ rest (span 12 0 (a .found .numbers)) (span 3 0 (a .found .counts)) ≡ numbersOf a
-  numbers-by rs e l m =
-      ap (λ (x : List ℕ). x ++ rest (span 12 0 (a .found .numbers)) (span 3 0 (a .found .counts))) (span-all 3 rs (e .1) ∙ e .0) ∙
-      ap (λ (x : List ℕ). refusalOf (a .outcome) ++ rest x (span 3 0 (a .found .counts))) (span-all 12 (a .found .numbers) l) ∙
-      ap (λ (x : List ℕ). refusalOf (a .outcome) ++ rest (a .found .numbers) x) (span-all 3 (a .found .counts) m)
+pub head-fine : {said : Said} {kind ends ends2 n p : ℕ} {b : Bool} → said ≡ S.Fine kind ends ends2 n p b
+    → 0 ∷ 0 ∷ 0 ∷ kind ∷ ends ∷ ends2 ∷ n ∷ p ∷ [] ≡ headOf said
+head-fine e = ap headOf (sym e)
+
+pub head-refused : {said : Said} {r : Refusal} → said ≡ S.Refused r → r .which ∷ r .place ∷ r .stream ∷ 0 ∷ 0 ∷ 0 ∷ 0 ∷ 0 ∷ [] ≡ headOf said
+head-refused e = ap headOf (sym e)
+
+pub said-block : (said : Said) (hs ns cs : List ℕ) → (hs ≡ headOf said) × (length hs ≡ 8) → blockOf hs ns cs ≡ numbersOf (answerOf said ns cs)
+said-block (S.Fine kind ends ends2 n p b) hs ns cs e = ap (λ (x : List ℕ). blockOf x ns cs) (e .0)
+said-block (S.Refused r) hs ns cs e = ap (λ (x : List ℕ). blockOf x ns cs) (e .0)
+
+pub answer-block : (a : Answer) (rs : List ℕ) → (rs ≡ refusalOf (a .outcome)) × (length rs ≡ 3)
+    → blockOf (span 3 0 rs ++ (a .kind ∷ a .ends ∷ a .ends2 ∷ a .found .entries ∷ a .found .payload ∷ [])) (a .found .numbers) (a .found .counts) ≡ numbersOf a
+answer-block a rs e =
+    let rest = a .kind ∷ a .ends ∷ a .ends2 ∷ a .found .entries ∷ a .found .payload ∷ [] in
+    ap (λ (x : List ℕ). blockOf (x ++ rest) (a .found .numbers) (a .found .counts)) (span-all 3 rs (e .1) ∙ e .0) ∙ refused-block a (a .outcome)
+  where
+    refused-block : (a : Answer) (o : Outcome) → blockOf (refusalOf o ++ (a .kind ∷ a .ends ∷ a .ends2 ∷ a .found .entries ∷ a .found .payload ∷ [])) (a .found .numbers) (a .found .counts)
+        ≡ refusalOf o ++ (a .kind ∷ a .ends ∷ a .ends2 ∷ a .found .entries ∷ a .found .payload ∷ (a .found .numbers ++ (a .found .counts ++ (0 ∷ 0 ∷ []))))
+    refused-block a Fine = refl
+    refused-block a (Refused r) = refl
 
 -- ---- the numbers from i on are to come
 module _ (lent ns : List ℕ) where
@@ -59,20 +82,25 @@ module _ (lent ns : List ℕ) where
     putting-all h = filling-end lent 0 (bytesOf ns) out (8 * i) (bytesOf (drop i ns)) p (ap bytesOf (drop-of-length-le ns {i = i} h) ∙ bytes-none)
 
 -- ---- all of them at the start of the block
-module _ (a : Answer) (block : List ℕ) where
-  pub put-short : length block < 200 → (10 ≡ numberOf block a) × (block ≡ blockAfter block a)
-  unfolding numberOf blockAfter
-  put-short h = simp (lt-leb 200 (length block) h) (refl, refl)
+module _ (block : List ℕ) where
+  pub put-short : (all : List ℕ) → length block < 200 → (10 ≡ numberPut block all) × (block ≡ blockPut block all)
+  unfolding numberPut blockPut
+  put-short all h = simp (lt-leb 200 (length block) h) (refl, refl)
 
-  pub put-long : 200 ≤ length block → (ns out : List ℕ) → (ns ≡ numbersOf a) × (length ns ≡ 25) → out ≡ placed 0 (bytesOf ns) block
-      → (getD ns 0 0 ≡ numberOf block a) × (out ≡ blockAfter block a)
-  unfolding numberOf blockAfter
-  put-long h ns out e q =
+  pub put-long : (all : List ℕ) → 200 ≤ length block → (ns out : List ℕ) → (ns ≡ all) × (length ns ≡ 25) → out ≡ placed 0 (bytesOf ns) block
+      → (getD ns 0 0 ≡ numberPut block all) × (out ≡ blockPut block all)
+  unfolding numberPut blockPut
+  put-long all h ns out e q =
       let l = bytes-length ns in
       let m = e .1 in
       let n : 0 + length (bytesOf ns) ≡ 200 = omega arith in
       let t = sym (le-leb 200 (length block) h) in (
-        ap (λ (x : List ℕ). getD x 0 0) (e .0) ∙ ap (λ (b : Bool). pick b (getD (numbersOf a) 0 0) 10) t,
+        ap (λ (x : List ℕ). getD x 0 0) (e .0) ∙ ap (λ (b : Bool). pick b (getD all 0 0) 10) t,
         q ∙ placed-fits 0 (bytesOf ns) block (omega arith) ∙ sets-eq (bytesOf ns) block 0 (omega arith) ∙ ap (λ (k : ℕ). bytesOf ns ++ drop k block) n ∙
-            ap (λ (x : List ℕ). bytesOf x ++ drop 200 block) (e .0) ∙ ap (λ (b : Bool). pick b (bytesOf (numbersOf a) ++ drop 200 block) block) t,
+            ap (λ (x : List ℕ). bytesOf x ++ drop 200 block) (e .0) ∙ ap (λ (b : Bool). pick b (bytesOf all ++ drop 200 block) block) t,
       )
+
+  -- the same block, by another word for its numbers
+  pub put-as : {all all' : List ℕ} → all ≡ all' → (n : ℕ) (out : List ℕ) → (n ≡ numberPut block all) × (out ≡ blockPut block all)
+      → (n ≡ numberPut block all') × (out ≡ blockPut block all')
+  put-as e n out p = (p .0 ∙ ap (numberPut block) e, p .1 ∙ ap (blockPut block) e)

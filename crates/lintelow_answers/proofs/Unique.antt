@@ -35,6 +35,8 @@ use Rattle.lintelow_answers.proofs.version.Reads as version
 use Rattle.lintelow_answers.proofs.version.Kinds as version-kinds
 use Rattle.lintelow_answers.proofs.put.Reads as put
 use Rattle.lintelow_answers.proofs.put.Kinds as put-kinds
+use Rattle.lintelow_answers.proofs.put_said.Reads as put-said
+use Rattle.lintelow_answers.proofs.put_said.Kinds as put-said-kinds
 use Rattle.lintelow_answers.proofs.skip_op_args.Reads as skip-op-args
 use Rattle.lintelow_answers.proofs.skip_op_args.Kinds as skip-op-args-kinds
 use Rattle.lintelow_answers.proofs.skip_daemon_result.Reads as skip-daemon-result
@@ -91,6 +93,10 @@ refused-block which place stream = refl
 pub put-unique : (κs : Lfts 1) (a : Dens κs put-kinds.ps) (r r′ : ℕ) (x x′ : AtExit (endedOf 1 put-kinds.ps put-kinds.r) κs)
     → put.Post κs a r x → put.Post κs a r′ x′ → (r ≡ r′) × (now (x .0) ≡ now (x′ .0))
 put-unique κs a r r′ x x′ p q = (p .0 ∙ sym (q .0), p .1 ∙ sym (q .1))
+
+pub put-said-unique : (κs : Lfts 1) (a : Dens κs put-said-kinds.ps) (r r′ : ℕ) (x x′ : AtExit (endedOf 1 put-said-kinds.ps put-said-kinds.r) κs)
+    → put-said.Post κs a r x → put-said.Post κs a r′ x′ → (r ≡ r′) × (now (x .0) ≡ now (x′ .0))
+put-said-unique κs a r r′ x x′ p q = (p .0 ∙ sym (q .0), p .1 ∙ sym (q .1))
 
 pub skip-op-args-unique : (κs : Lfts 1) (a : Dens κs skip-op-args-kinds.ps) (r r′ : Answer) (x x′ : AtExit (endedOf 1 skip-op-args-kinds.ps skip-op-args-kinds.r) κs)
     → skip-op-args.Post κs a r x → skip-op-args.Post κs a r′ x′ → r ≡ r′

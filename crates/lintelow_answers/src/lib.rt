@@ -1,7 +1,7 @@
 // What the skippers, the readers of one field, the writers and the tests say, as whole answers for the C boundary; and an answer as a block of 25 numbers of eight bytes.
 ghost use mathlib.Core.Path.{_≡_};
 ghost use Rattle.layouts.specs.Primitive.{ok, pick, version};
-ghost use Rattle.walk_judge.specs.Judged.{answerAs};
+ghost use Rattle.walk_judge.specs.Judged.{answerOf, answerAs};
 ghost use Rattle.wire.specs.Answers.{numberRead, countRead, totalRead, peeked, spanned, skippedTo};
 ghost use Rattle.writers_output.specs.Answer.{meaning};
 ghost use Rattle.versions.specs.Handshake.{versionOf};
@@ -11,7 +11,7 @@ ghost use Prim.Native.Nat.{_*_, _≤_};
 ghost use lib.ListN.{length};
 ghost use Rattle.writers_output.specs.Numbers.{bytesOf};
 ghost use Rattle.writers_output.specs.Placed.{placed};
-ghost use Rattle.lintelow_answers.specs.Block.{refusalOf, numbersOf, numberOf, blockAfter};
+ghost use Rattle.lintelow_answers.specs.Block.{refusalOf, headOf, blockOf, numberPut, numberOf, blockPut, blockAfter};
 ghost use lib.Dec.{eqb};
 ghost use Rattle.layouts.specs.Pieces.{run};
 ghost use Rattle.layouts.specs.Judge.{entriesOf};
@@ -23,6 +23,7 @@ use table_operations::Framed;
 use versions::ProtocolVersion;
 use walk_judge::Answer;
 use walk_judge::Outcome;
+use walk_judge::Said;
 use walk_strings::Passed;
 use wire::Peeked;
 use wire::Read;
@@ -180,23 +181,44 @@ fn refusal(o: Outcome) -> [u64; 3]
     }
 }
 
-fn numbers(a: Answer) -> [u64; 25]
-    ensures { λ r. ⌜ (r ≡ numbersOf a) × (length r ≡ 25) ⌝ }
+// Number, place and stream of a refusal, kind, ends, entries and payload.
+fn head(said: Said) -> [u64; 8]
+    ensures { λ r. ⌜ (r ≡ headOf said) × (length r ≡ 8) ⌝ }
 {
-    let o = a.outcome;
-    let found = a.found;
-    let n = found.numbers;
-    let c = found.counts;
-    let r = refusal(o);
+    match said {
+        Said::Fine {
+            kind,
+            ends,
+            ends2,
+            entries,
+            payload,
+            present: _,
+        } => [
+            0,
+            0,
+            0,
+            kind,
+            ends as u64,
+            ends2 as u64,
+            entries as u64,
+            payload as u64,
+        ],
+        Said::Refused(r) => [r.which, r.place as u64, r.stream, 0, 0, 0, 0, 0],
+    }
+}
+
+fn numbers(h: [u64; 8], n: [u64; 12], c: [u64; 3]) -> [u64; 25]
+    ensures { λ r. ⌜ (r ≡ blockOf h n c) × (length r ≡ 25) ⌝ }
+{
     [
-        r[0],
-        r[1],
-        r[2],
-        a.kind,
-        a.ends as u64,
-        a.ends2 as u64,
-        found.entries as u64,
-        found.payload as u64,
+        h[0],
+        h[1],
+        h[2],
+        h[3],
+        h[4],
+        h[5],
+        h[6],
+        h[7],
         n[0],
         n[1],
         n[2],
@@ -228,17 +250,47 @@ fn put_numbers(out: &mut [u8], ns: &[u64])
     }
 }
 
+fn put_parts(block: &mut [u8], h: [u64; 8], n: [u64; 12], c: [u64; 3]) -> u64
+    ensures number { λ r. ⌜ r ≡ numberPut (now (block .entry)) (blockOf h n c) ⌝ }
+    ensures block { λ r. ⌜ now (block .exit) ≡ blockPut (now (block .entry)) (blockOf h n c) ⌝ }
+{
+    if block.len() < BLOCK {
+        return layouts::OUTPUT_FULL;
+    }
+    let ns = numbers(h, n, c);
+    put_numbers(block, &ns);
+    ns[0]
+}
+
 // The answer into the block; its first number, 0 or the refusal's, is also returned. A block that is too short stays as it is.
 pub fn put(block: &mut [u8], a: Answer) -> u64
     ensures number { λ r. ⌜ r ≡ numberOf (now (block .entry)) a ⌝ }
     ensures block { λ r. ⌜ now (block .exit) ≡ blockAfter (now (block .entry)) a ⌝ }
 {
-    if block.len() < BLOCK {
-        return layouts::OUTPUT_FULL;
-    }
-    let ns = numbers(a);
-    put_numbers(block, &ns);
-    ns[0]
+    let o = a.outcome;
+    let found = a.found;
+    let r = refusal(o);
+    let h = [
+        r[0],
+        r[1],
+        r[2],
+        a.kind,
+        a.ends as u64,
+        a.ends2 as u64,
+        found.entries as u64,
+        found.payload as u64,
+    ];
+    let n = found.numbers;
+    let c = found.counts;
+    put_parts(block, h, n, c)
+}
+
+// The same of what is said, with the numbers and counts beside it.
+pub fn put_said(block: &mut [u8], said: Said, numbers: [u64; 12], counts: [u64; 3]) -> u64
+    ensures number { λ r. ⌜ r ≡ numberOf (now (block .entry)) (answerOf said numbers counts) ⌝ }
+    ensures block { λ r. ⌜ now (block .exit) ≡ blockAfter (now (block .entry)) (answerOf said numbers counts) ⌝ }
+{
+    put_parts(block, head(said), numbers, counts)
 }
 
 // The kind of skipped arguments that answer one string.

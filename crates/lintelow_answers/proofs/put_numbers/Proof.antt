@@ -18,13 +18,13 @@ put-numbers-spec =
     (tie.spec
     Inv-loop
     μ-loop
-    (λ c. putting-none _ _ (c .before .before .pre))
+    (λ c. search putting-none)
     (λ c. search needs)
     (λ c. search needs)
     (λ c. search needs)
     (λ c κs. search needs)
     (λ c. search needs)
     (λ c. search needs)
-    (λ c. putting-more _ _ _ _ (c .before .before .before .before .before .before .loop .inv) _ (c .before .before .before .before .before .loop-test .taken) (c .before .before .put-number .ensures))
-    (λ c. c .before .loop .inv .size)
-    (λ c. putting-all _ _ _ _ (c .before .loop .inv) (c .loop-test .left)))
+    (λ c. search putting-more)
+    (λ c. search needs)
+    (λ c. search putting-all))

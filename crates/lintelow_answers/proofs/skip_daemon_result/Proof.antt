@@ -17,4 +17,4 @@ skip-daemon-result-spec =
     (λ c. search needs)
     (λ c κs. search needs)
     (λ c. result-is _ _ _ (c .before .before .before .before .skip-daemon-result .ensures) (c .before .before .k .given .1) _ (ap (λ (x : Record). record { outcome = Fine; kind = 0; ends = c .before .before .k .given .0 .0; ends2 = 0; found = x }) (c .empty .ensures)))
-    (λ c. result-is _ _ _ (c .before .before .before .before .skip-daemon-result .ensures) (c .before .before .k2 .given .1) _ (c .refused-answer .ensures)))
+    (λ c. search result-is))

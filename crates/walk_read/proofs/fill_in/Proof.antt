@@ -14,7 +14,7 @@ fill-in-spec =
     (λ c. search needs)
     (λ c. search needs)
     (λ c. search needs)
-    (λ c. (put-sets _ _ _ _ (c .before .before .before .before .before .before .fill .ensures .0), (put-sets _ _ _ _ (c .before .before .before .before .before .before .fill .ensures .1 .0), c .before .before .before .before .before .before .fill .ensures .1 .1)))
+    (λ c. (search put-sets, (search put-sets, search needs)))
     (λ c κs. search needs)
     (λ c. search needs)
     (λ c. search needs)

@@ -17,5 +17,5 @@ read-number-spec =
     (λ c. search needs)
     (λ c κs. search needs)
     (λ c κs. search needs)
-    (λ c. short-said _ _ (c .before .before .before .before .before .before .before .before .pre) (now (c .before .before .before .before .before .before .before .before .args .s)) _ (c .before .before .before .before .before .before .number-at .ensures) _ _ (c .before .before .before .before .enum-told .given .1) (c .before .before .before .refuse .ensures) (c .refuse2 .ensures .1))
+    (λ c. search short-said)
     (λ c. number-said _ _ (c .before .before .before .before .before .before .before .before .before .pre) (now (c .before .before .before .before .before .before .before .before .before .args .s)) _ (c .before .before .before .before .before .before .before .number-at .ensures) _ _ (c .before .before .before .before .before .m .given .1) (rw (← c .before .spoken .ensures) (c .kind-of .ensures))))
