@@ -1,6 +1,6 @@
 -- A view by the place of its entry, and the comparison with the store's directory.
 use Prim.Native.Nat.{ℕ, suc, _+_, _-_, _≤_, _<_}
-use mathlib.Core.Path.{_≡_, refl, ap, _∙_}
+use mathlib.Core.Path.{_≡_, refl, sym, ap, _∙_}
 use mathlib.Core.List.{List, []}
 use mathlib.Core.Bool.{Bool, true, false, _&&_}
 use native.Mathlib.Omega.{arith}
@@ -20,7 +20,7 @@ use Rattle.entries.specs.declared.Located.the-variants.{Part, Refused}
 use Rattle.entries.specs.Entries.{numbersIn, placeOf, found}
 use Rattle.entries.proofs.Numbers.{with-words}
 use Rattle.entries.proofs.Places.{inside, refused-view}
-use Rattle.views.specs.Fault.{faultOf}
+use Rattle.views.specs.Fault.{faultOf, startOf, Begins}
 
 module _ (bytes : List ℕ) (i : ℕ) (f : Located) where
   module _ (words : List ℕ) (e : found f ≡ placeOf bytes (numbersIn words []) i) where
@@ -38,12 +38,24 @@ module _ (bytes : List ℕ) (i : ℕ) (f : Located) where
     pub part : (start len : ℕ) → f ≡ Part start len → take (start + len - start) (drop start bytes) ≡ partOf (viewOf bytes es i)
     part start len q = rw (add-sub-cancel-left, inside bytes es i f e start len q .view)
 
+    -- it begins at the start of its entry
+    pub part-begins : (start len : ℕ) → f ≡ Part start len → (block offset : ℕ) → Begins (block, start + offset) (block, offset) (startOf (placeOf bytes es i))
+    part-begins start len q block offset = (refl, ap (λ (n : ℕ). n + offset) (ap (λ (l : Located). startOf (found l)) (sym q) ∙ ap startOf e))
+
     -- a refused one is the empty part
     pub empty : (x : Refusal) → f ≡ Refused x → [] ≡ partOf (viewOf bytes es i)
     empty x q = rw (refused-view bytes es i f e x q)
 
+    -- and begins where the bytes do
+    pub empty-begins : (x : Refusal) → f ≡ Refused x → (block offset : ℕ) → Begins (block, offset) (block, offset) (startOf (placeOf bytes es i))
+    empty-begins x q block offset = (refl, let z = ap (λ (l : Located). startOf (found l)) (sym q) ∙ ap startOf e in omega arith)
+
 pub part-of-words : (bytes words part : List ℕ) (i : ℕ) → part ≡ partOf (viewOf bytes (numbersIn words []) i) → part ≡ partOf (viewOf bytes words i)
 part-of-words bytes words part i e = e ∙ ap (λ (es : List ℕ). partOf (viewOf bytes es i)) (with-words words)
+
+pub begins-of-words : (bytes words : List ℕ) (view from : ℕ × ℕ) (i : ℕ) → Begins view from (startOf (placeOf bytes (numbersIn words []) i))
+    → Begins view from (startOf (placeOf bytes words i))
+begins-of-words bytes words view from i e = (e .0, e .1 ∙ ap (λ (es : List ℕ). startOf (placeOf bytes es i) + from .1) (with-words words))
 
 -- ---- a list's beginning compared with another list, element by element
 module _ (b s : List ℕ) where

@@ -40,17 +40,21 @@ told-by (Refused r) = refl
 pub fault-unique : (r r' : Fault) → meaning r ≡ meaning r' → r ≡ r'
 fault-unique r r' e = sym (told-by r) ∙ ap toldBy e ∙ told-by r'
 
-pub part-determined : Determined 3 part-kinds.ps part-kinds.r part.Post (λ κs r. r .now)
-part-determined κs a r r' x x' p q = p ∙ sym q
+-- a view: its contents, and where it begins
+same-view : {part part' : List ℕ} {at at' : ℕ × ℕ} → part ≡ part' → at .0 ≡ at' .0 → at .1 ≡ at' .1 → _≡_ {A = List ℕ × (ℕ × ℕ)} (part, at) (part', at')
+same-view p q e i = (p i, (q i, e i))
 
-pub entry-determined : Determined 2 entry-kinds.ps entry-kinds.r entry.Post (λ κs r. r .now)
-entry-determined κs a r r' x x' p q = p ∙ sym q
+pub part-determined : Determined {A = List ℕ × (ℕ × ℕ)} 3 part-kinds.ps part-kinds.r part.Post (λ κs r. (r .now, r .ptr))
+part-determined κs a r r' x x' p q = same-view (p .0 ∙ sym (q .0)) (p .1 .0 ∙ sym (q .1 .0)) (p .1 .1 ∙ sym (q .1 .1))
+
+pub entry-determined : Determined {A = List ℕ × (ℕ × ℕ)} 2 entry-kinds.ps entry-kinds.r entry.Post (λ κs r. (r .now, r .ptr))
+entry-determined κs a r r' x x' p q = same-view (p .0 ∙ sym (q .0)) (p .1 .0 ∙ sym (q .1 .0)) (p .1 .1 ∙ sym (q .1 .1))
 
 pub entry-fault-determined : Determined 2 entry-fault-kinds.ps entry-fault-kinds.r entry-fault.Post (λ κs r. r)
 entry-fault-determined κs a r r' x x' p q = fault-unique r r' (p ∙ sym q)
 
-pub feature-determined : Determined 2 feature-kinds.ps feature-kinds.r feature.Post (λ κs r. r .now)
-feature-determined κs a r r' x x' p q = p ∙ sym q
+pub feature-determined : Determined {A = List ℕ × (ℕ × ℕ)} 2 feature-kinds.ps feature-kinds.r feature.Post (λ κs r. (r .now, r .ptr))
+feature-determined κs a r r' x x' p q = same-view (p .0 ∙ sym (q .0)) (p .1 .0 ∙ sym (q .1 .0)) (p .1 .1 ∙ sym (q .1 .1))
 
 pub feature-fault-determined : Determined 3 feature-fault-kinds.ps feature-fault-kinds.r feature-fault.Post (λ κs r. r)
 feature-fault-determined κs a r r' x x' p q = fault-unique r r' (p ∙ sym q)

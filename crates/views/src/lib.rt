@@ -2,10 +2,10 @@
 ghost use Prim.Native.Nat.{_≤_};
 ghost use mathlib.Core.Path.{_≡_};
 ghost use lib.ListN.{length, take};
-ghost use Rattle.layouts.specs.Primitive.{same};
+ghost use Rattle.layouts.specs.Primitive.{pick, same};
 ghost use Rattle.layouts.specs.Writers.{viewOf, featureOf, partOf, storeDirectory, isStorePath};
-ghost use Rattle.entries.specs.Entries.{numbersIn};
-ghost use Rattle.views.specs.Fault.{meaning, faultOf};
+ghost use Rattle.entries.specs.Entries.{numbersIn, placeOf};
+ghost use Rattle.views.specs.Fault.{meaning, faultOf, startOf, Begins};
 use entries::Located;
 use layouts::Refusal;
 
@@ -32,7 +32,8 @@ pub fn entry_fault(bytes: &[u8], entries: &[u64], i: usize) -> Fault
 
 // String number i of s, with entries in either form, and the empty part at the start where it is refused.
 pub fn part<'a, 'b, 'c>(s: &'a [u8], words: &'b [u64], bytes: &'c [u8], i: usize) -> &'a [u8]
-    ensures { λ r. ⌜ now r ≡ partOf (viewOf (now (s .entry)) (numbersIn (now (words .entry)) (now (bytes .entry))) i) ⌝ }
+    ensures part { λ r. ⌜ now r ≡ partOf (viewOf (now (s .entry)) (numbersIn (now (words .entry)) (now (bytes .entry))) i) ⌝ }
+    ensures place { λ r. ⌜ Begins (r .ptr) (s .entry .ptr) (startOf (placeOf (now (s .entry)) (numbersIn (now (words .entry)) (now (bytes .entry))) i)) ⌝ }
 {
     match entries::find(s, words, bytes, i) {
         Located::Part { start, len } => {
@@ -45,7 +46,8 @@ pub fn part<'a, 'b, 'c>(s: &'a [u8], words: &'b [u64], bytes: &'c [u8], i: usize
 
 // String number i, and the empty part at the start where it is refused.
 pub fn entry<'a, 'b>(bytes: &'a [u8], entries: &'b [u64], i: usize) -> &'a [u8]
-    ensures { λ r. ⌜ now r ≡ partOf (viewOf (now (bytes .entry)) (now (entries .entry)) i) ⌝ }
+    ensures part { λ r. ⌜ now r ≡ partOf (viewOf (now (bytes .entry)) (now (entries .entry)) i) ⌝ }
+    ensures place { λ r. ⌜ Begins (r .ptr) (bytes .entry .ptr) (startOf (placeOf (now (bytes .entry)) (now (entries .entry)) i)) ⌝ }
 {
     let none: [u8; 0] = [];
     part(bytes, entries, &none, i)
@@ -76,7 +78,9 @@ pub fn feature<'a, 'b>(
     of_daemon: bool,
     i: usize,
 ) -> &'a [u8]
-    ensures { λ r. ⌜ now r ≡ partOf (featureOf «of_daemon» (now (client .entry)) (now (daemon .entry)) (now (entries .entry)) i) ⌝ }
+    ensures part { λ r. ⌜ now r ≡ partOf (featureOf «of_daemon» (now (client .entry)) (now (daemon .entry)) (now (entries .entry)) i) ⌝ }
+    ensures place { λ r. ⌜ Begins (r .ptr) (pick «of_daemon» (daemon .entry .ptr) (client .entry .ptr))
+        (startOf (placeOf (pick «of_daemon» (now (daemon .entry)) (now (client .entry))) (now (entries .entry)) i)) ⌝ }
 {
     if of_daemon {
         entry(daemon, entries, i)

@@ -9,5 +9,5 @@ feature-spec =
     (tie.spec
     (λ c κs. search needs)
     (λ c κs. search needs)
-    (λ c. simp (c .before .if1 .taken) (c .entry .ensures))
-    (λ c. simp (c .before .if1 .left) (c .entry2 .ensures)))
+    (λ c. (simp (c .before .if1 .taken) (c .entry .ensures .0), simp (c .before .if1 .taken) (c .entry .ensures .1)))
+    (λ c. (simp (c .before .if1 .left) (c .entry2 .ensures .0), simp (c .before .if1 .left) (c .entry2 .ensures .1))))

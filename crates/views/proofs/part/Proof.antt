@@ -2,7 +2,7 @@
 use borrow.Author.Needs.{needs}
 use native.Mathlib.Omega.{arith}
 use Rattle.entries.proofs.Places.{inside}
-use Rattle.views.proofs.Laws.{part, empty}
+use Rattle.views.proofs.Laws.{part, part-begins, empty, empty-begins}
 use Rattle.views.proofs.part.Statement.{statement}
 use Rattle.views.proofs.part.Tie as tie
 
@@ -18,5 +18,5 @@ part-spec =
     (λ c. omega (arith, inside _ _ _ _ (c .before .before .before .find .ensures) _ _ (c .before .start .given .1) .within))
     (λ c. search needs)
     (λ c. search needs)
-    (λ c. part _ _ _ _ (c .before .before .before .before .find .ensures) _ _ (c .before .before .start .given .1))
-    (λ c. search empty))
+    (λ c. (part _ _ _ _ (c .before .before .before .before .find .ensures) _ _ (c .before .before .start .given .1), part-begins _ _ _ _ (c .before .before .before .before .find .ensures) _ _ (c .before .before .start .given .1) _ _))
+    (λ c. (search empty, empty-begins _ _ _ _ (c .before .before .before .find .ensures) _ (c .before .enum-told .given .1) _ _)))

@@ -17,6 +17,6 @@ put-entry-spec =
     (λ c κs. search needs)
     (λ c κs. search needs)
     (λ c κs. search needs)
-    (λ c. omega (arith, ap (λ (d : List ℕ). length (stringBytes d)) (c .before .before .before .before .before .part .ensures)))
+    (λ c. omega (arith, ap (λ (d : List ℕ). length (stringBytes d)) (c .before .before .before .before .before .part .ensures .0)))
     (λ c. search needs)
-    (λ c. entry-put _ _ _ _ _ _ (c .before .before .before .before .before .part .ensures) (c .string-length .ensures) (c .before .before .before .put-string .ensures)))
+    (λ c. entry-put _ _ _ _ _ _ (c .before .before .before .before .before .part .ensures .0) (c .string-length .ensures) (c .before .before .before .put-string .ensures)))
