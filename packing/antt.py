@@ -26,7 +26,7 @@ class Con(collections.namedtuple("Con", "name args")):
 
 
 # These definitions stay as they stand: the claims speak of what a layout or a kind is made of, and not of what becomes of it.
-SHUT = {"layout", "kindNumber"}
+SHUT = {"layout", "argumentsNumber", "replyNumber", "skippedNumber"}
 
 
 class Fault(Exception):

@@ -2,7 +2,7 @@
 import collections
 import string
 
-from packing.layouts import ANSWERS, FIRST_CODE, LAYOUTS, all_kinds, constant, kind_name, number_of, shape_of
+from packing.layouts import ANSWERS, FIRST_CODE, LAYOUTS, all_kinds, constant, just_number, kind_name, shape_of
 
 MADE = "Made by ./tables from crates/layouts/specs and crates/table/specs/Claims.antt"
 
@@ -244,7 +244,7 @@ def places(t):
 
 
 def kinds(t):
-    plain = ((constant(kind.name), number_of(kind), "") for kind in all_kinds())
+    plain = ((name, number, "") for name, number in all_kinds())
     decided = ((t.kind_name(kind), t.kind_code(kind), t.kind_users(kind)) for kind in t.kinds)
     return filled(KINDS, kinds=constants("u8", plain), codes=constants("u8", decided))
 
@@ -279,7 +279,7 @@ def parted(kind):
 def numbered(kind):
     """In the words of crates/table/specs/Numbered.antt."""
     if kind.name == "just":
-        return f"(just {number_of(kind.args[0].args[0])})"
+        return f"(just {just_number(kind)})"
     *version, yes, no = kind.args
     return f"({' '.join([kind.name, *map(str, version), numbered(yes), numbered(no)])})"
 

@@ -11,6 +11,10 @@ OPERATIONS = "crates/layouts/specs/Operations.antt"
 LAYOUTS = {"arguments": "arguments", "skips": "skipped", "reply": "reply"}
 ANSWERS = {"argumentsKind": "arguments_kind", "skippedKind": "skipped_kind", "replyKind": "reply_kind"}
 
+# the types of kinds, each with the definition of its numbers; and what an answer has that is of no kind
+NUMBERINGS = {"ArgumentsKind": "argumentsNumber", "ReplyKind": "replyNumber", "SkippedKind": "skippedNumber"}
+NONE = "NONE"
+
 
 # ---- what is claimed
 
@@ -76,19 +80,29 @@ def layout_names(rows, others):
 def kind_name(kind):
     """A kind that a version or a flag decides is named as it is decided."""
     if kind.name == "just":
-        return constant(kind.args[0].args[0].name)
+        return constant(kind.args[0].args[0].name) if kind.args[0] else NONE
     *version, yes, no = kind.args
     return f"{f'FROM_{version[0]}' if version else 'IF_THERE'}_{kind_name(yes)}_ELSE_{kind_name(no)}"
 
 
-def number_of(kind):
-    """The number of a constructor of Kind."""
-    number = apply(load(OPERATIONS).defined("kindNumber"), kind)
-    return within(f"{OPERATIONS}: kindNumber", fitting, kind.name, number, FIRST_CODE)
+def number_of(numbering, kind):
+    """The number of a constructor, by the definition that gives its type's."""
+    number = apply(load(OPERATIONS).defined(numbering), kind)
+    return within(f"{OPERATIONS}: {numbering}", fitting, kind.name, number, FIRST_CODE)
+
+
+def just_number(kind):
+    """The number of a kind that nothing decides."""
+    numbered = kind.args[0]
+    return number_of(numbered.name, numbered.args[0]) if numbered else 0
 
 
 def all_kinds():
-    return [Con(name, ()) for name, data in load(OPERATIONS).constructors.items() if data == "Kind"]
+    """Each kind with its number."""
+    yield NONE, 0
+    for name, data in load(OPERATIONS).constructors.items():
+        if data in NUMBERINGS:
+            yield constant(name), number_of(NUMBERINGS[data], Con(name, ()))
 
 
 # document 01's letters, for comments
@@ -222,7 +236,7 @@ class Tables:
     def kind_code(self, kind):
         if kind.name != "just":
             return FIRST_CODE + self.kinds.index(kind)
-        return number_of(kind.args[0].args[0])
+        return just_number(kind)
 
     def kind_name(self, kind):
         # a longer name would not fit on a line

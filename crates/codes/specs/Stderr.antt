@@ -1,4 +1,4 @@
--- The codes of the code, by the numbers of the definitions; `proofs/Stderr.antt` says that they are `messageOf`'s.
+-- The codes of the code, by the numbers of the definitions; `proofs/Messages.antt` says that they are `messageOf`'s.
 use Prim.Native.Nat.{ℕ}
 use mathlib.Core.Bool.{Bool, true, false}
 use lib.Dec.{eqb}

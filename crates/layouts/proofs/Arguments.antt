@@ -8,14 +8,14 @@ use lib.Dec.{eqb}
 use borrow.Author.Tests.{eqb-true, eqb-false}
 use native.Mathlib.Omega.{arith}
 use Rattle.layouts.specs.Primitive.{pick, Version, version, atLeast, ok, refused}
-use Rattle.layouts.specs.Shape.{dropped, Role, passed, kept, What, num, str, set, pairs, framed, maybe, typed, Item, always, from, below, once, Tree, stop, strings, units, ifTrue, byType, field, there, what, gated, fields, group, groups, layout}
+use Rattle.layouts.specs.Shape.{dropped, Role, passed, kept, What, num, str, set, pairs, framed, maybe, typed, Item, always, from, below, between, once, Tree, stop, strings, units, ifTrue, byType, field, there, what, gated, fields, group, groups, layout}
 use Rattle.layouts.specs.Pieces.{run}
 use Rattle.layouts.specs.Record.{blank}
 use Rattle.layouts.specs.Judge.{Ended, judgeOf}
 use Rattle.layouts.specs.Soft.{keptOf}
-use Rattle.layouts.specs.Operations.{Skip, skipKind, nothing, empty, first, paths, overrides, lowered, loweredAll, skipped, until, Operation, Row, row, unknown, rowIf, findIn, operations, find}
-use Rattle.layouts.specs.Calls.{older, argumentsTree, skippedTree, byRow, kindBy, Answer, answered, readOpArgs, skipOpArgs, skipFramed}
-use Rattle.layouts.proofs.Judge.{RefusedBy}
+use Rattle.layouts.specs.Operations.{Skip, nothing, empty, first, paths, overrides, lowered, loweredAll, skipped, until, Operation, Row, row, unknown, rowIf, findIn, operations, find}
+use Rattle.layouts.specs.Calls.{argumentsTree, skippedTree, byRow, argumentsKinds, skippedKinds, Answer, answered, readOpArgs, skipOpArgs, skipFramed}
+use Rattle.layouts.specs.Demands.{RefusedBy, framedArguments, Alike}
 use Rattle.layouts.proofs.Calls.{answer-of, refused-of, refused-onward}
 use Rattle.layouts.proofs.Lowers.{not-both, Lowers, asks, passes, keeps, leaves, stops, Ends, Agree, both-refused, both, no-later, lowers-agree, lowers-kept}
 
@@ -111,6 +111,7 @@ module _ (v : Version) where
     fields-lower (always w ∷ is) f = field-lower true is always (λ w'. refl) w f (fields-lower is)
     fields-lower (from x w ∷ is) f = field-lower (there v (from x w)) is (from x) (λ w'. refl) w f (fields-lower is)
     fields-lower (below x w ∷ is) f = field-lower (there v (below x w)) is (below x) (λ w'. refl) w f (fields-lower is)
+    fields-lower (between x y w ∷ is) f = field-lower (there v (between x y w)) is (between x y) (λ w'. refl) w f (fields-lower is)
 
   kept-lower : (c : Bool) (w : What) (is : List Item) → w ≡ str kept → pick (isF w) (none is) (lastF is) ≡ true
       → Lowers (pick (isF w) c (hasF v is)) 1 (gated c w (rest is)) (gated c w (rest (loweredAll first is)))
@@ -151,19 +152,19 @@ answered-S : map (λ (o : Operation). answeredField (o .skip) (o .arguments)) op
 unfolding operations
 answered-S = refl
 
--- the arguments have an F: of AddToStore from 1.25 on
-abbrev pub framedArguments : ℕ → Bool
-framedArguments op = eqb op 7 || eqb op 44 || eqb op 45
+-- skipping has S N N s of AddToStore alone
+abbrev older : ℕ → List Item
+older op = pick (eqb op 7) (until 25 (str kept ∷ num dropped ∷ num dropped ∷ str passed ∷ [])) []
+
+older-skips : map (λ (o : Operation). o .skips) operations ≡ map (λ (o : Operation). older (o .code) ++ skipped (o .skip) (o .arguments)) operations
+unfolding operations
+older-skips = refl
 
 framed-arguments : (v : Version)
     → map (λ (o : Operation). hasF v (o .arguments)) operations
     ≡ map (λ (o : Operation). pick (eqb (o .code) 7) (atLeast v (version 1 25)) (framedArguments (o .code))) operations
 unfolding operations
 framed-arguments v = refl
-
--- AddToStore below 1.25 is read as nothing and skipped as S N N s; else the two calls speak of the same fields
-abbrev pub Alike : ℕ → Version → Type 0
-Alike op v = op ≡ 7 → atLeast v (version 1 25) ≡ true
 
 module _ (op : ℕ) (v : Version) where
   -- S N N s stands below 1.25 only
@@ -183,14 +184,15 @@ module _ (op : ℕ) (v : Version) where
       by false e = refl
 
   row-lowers : Alike op v → (o : Operation) → find op ≡ row o
-      → Lowers (framedArguments op) 1 (layout v (once (o .arguments) ∷ [])) (layout v (once (older op ++ skipped (o .skip) (o .arguments)) ∷ []))
+      → Lowers (framedArguments op) 1 (layout v (once (o .arguments) ∷ [])) (layout v (once (o .skips) ∷ []))
   unfolding find layout groups group
   row-lowers a o e =
       let l = found _ _ operations op o last-F e in
       let s = found _ _ operations op o answered-S e in
       let h = found _ _ operations op o (framed-arguments v) e in
+      let k = found _ _ operations op o older-skips e in
       let g : hasF v (o .arguments) ≡ framedArguments op = h .0 ∙ ap (λ c. pick (eqb c 7) (atLeast v (version 1 25)) (framedArguments c)) (h .1) ∙ framed-alike a in
-      rw (older-none a (skipped (o .skip) (o .arguments)), ← g) (skipped-lower v (o .skip) (o .arguments) (s .0) (l .0))
+      rw (k .0, k .1, older-none a (skipped (o .skip) (o .arguments)), ← g) (skipped-lower v (o .skip) (o .arguments) (s .0) (l .0))
 
 -- below 1.25 the kept string of S N N s is the only one
 old-lowers : (v : Version) → atLeast v (version 1 25) ≡ false → Lowers false 1 (skippedTree 7 v) (skippedTree 7 v)
@@ -203,7 +205,7 @@ pub skipped-keeps : (op : ℕ) (v : Version) (s : List ℕ) → keptOf (run (ski
 unfolding skippedTree run keptOf
 skipped-keeps op v s = by (eqb op 7) (atLeast v (version 1 25)) refl refl
   where
-    alike : Alike op v → (f : Row) → find op ≡ f → keptOf (run (byRow f (λ o. layout v (once (older op ++ skipped (o .skip) (o .arguments)) ∷ []))) s 0) ≤ 1
+    alike : Alike op v → (f : Row) → find op ≡ f → keptOf (run (byRow f (λ o. layout v (once (o .skips) ∷ []))) s 0) ≤ 1
     alike a (row o) e = lowers-kept (row-lowers op v a o e) s 0
     alike a unknown e = omega arith
 
@@ -220,7 +222,7 @@ module _ (op : ℕ) (v : Version) (s : List ℕ) (slots room : ℕ) where
     where
       by : (f : Row) → find op ≡ f
           → Agree (framedArguments op) s 0 (judgeOf s slots room blank (run (byRow f (λ o. layout v (once (o .arguments) ∷ []))) s 0))
-          (judgeOf s 1 0 blank (run (byRow f (λ o. layout v (once (older op ++ skipped (o .skip) (o .arguments)) ∷ []))) s 0))
+          (judgeOf s 1 0 blank (run (byRow f (λ o. layout v (once (o .skips) ∷ []))) s 0))
       by (row o) e = lowers-agree s slots room (row-lowers op v a o e) 0 (omega arith) blank blank (omega arith)
       by unknown e = both-refused 0 0 (omega arith) (omega arith)
 
@@ -228,11 +230,11 @@ module _ (op : ℕ) (v : Version) (s : List ℕ) (slots room : ℕ) where
       → (y : Answer) × (skipOpArgs op v s ≡ ok y) × Ends b s (y .ends) (x .ends)
   unfolding readOpArgs skipOpArgs
   read-ends b f a x e =
-      let y = answer-of v (kindBy (find op) (λ o. o .argumentsKind)) (judgeOf s slots room blank (run (argumentsTree op v) s 0)) x e in
+      let y = answer-of v (argumentsKinds op) (judgeOf s slots room blank (run (argumentsTree op v) s 0)) x e in
       let z = both (y .0) (arguments-agree a) (y .1) in
       let w : y .0 .ends ≡ x .ends = cc in
       let g = subst (λ n. Ends (framedArguments op) s (z .0 .ends) n) w (z .2) in
-      (_, ap (answered v (kindBy (find op) (λ o. skipKind (o .skip)))) (z .1), subst (λ c. Ends c s (z .0 .ends) (x .ends)) f g)
+      (_, ap (answered v (skippedKinds op)) (z .1), subst (λ c. Ends c s (z .0 .ends) (x .ends)) f g)
 
   -- where reading succeeds and the arguments have no F, skipping ends at the same byte
   pub read-skips-arguments : framedArguments op ≡ false → (x : Answer) → readOpArgs op v s slots room ≡ ok x
@@ -249,4 +251,4 @@ module _ (op : ℕ) (v : Version) (s : List ℕ) (slots room : ℕ) where
   unfolding readOpArgs skipOpArgs
   skip-refuses-arguments a which place stream q =
       refused-onward place (judgeOf s slots room blank (run (argumentsTree op v) s 0)) _
-      (no-later (arguments-agree a) (refused-of v (kindBy (find op) (λ o. skipKind (o .skip))) (judgeOf s 1 0 blank (run (skippedTree op v) s 0)) which place stream q))
+      (no-later (arguments-agree a) (refused-of v (skippedKinds op) (judgeOf s 1 0 blank (run (skippedTree op v) s 0)) which place stream q))

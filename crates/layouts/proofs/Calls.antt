@@ -12,9 +12,10 @@ use Rattle.layouts.specs.Record.{blank, recordOf}
 use Rattle.layouts.specs.Judge.{notText, Ended, judgeOf}
 use Rattle.layouts.specs.Soft.{Softened, keptOf, orBad, unlessBad}
 use Rattle.layouts.specs.Operations.{Kinds, Row, row, unknown, find}
-use Rattle.layouts.specs.Calls.{argumentsTree, skippedTree, replyTree, byRow, kindBy, Answer, answered, readOf, readOpArgs, readDaemonResult, skipDaemonResult, skipOpArgs}
+use Rattle.layouts.specs.Calls.{argumentsTree, skippedTree, replyTree, byRow, argumentsKinds, replyKinds, Answer, answered, readOf, readOpArgs, readDaemonResult, skipDaemonResult, skipOpArgs}
+use Rattle.layouts.specs.Demands.{RefusedBy, meaningOf}
 use Rattle.layouts.proofs.Placed.{never-both}
-use Rattle.layouts.proofs.Judge.{RefusedBy, judge-read}
+use Rattle.layouts.proofs.Judge.{judge-read}
 use Rattle.layouts.proofs.Soft.{soft-rest}
 use Rattle.layouts.proofs.Theorems.{soft-skip, soft-read, soft-answer, skip-refused}
 
@@ -39,10 +40,6 @@ answer-of v k (refused which place stream) x e = absurd (never-both e)
 pub refused-of : (v : Version) (k : Kinds) (o : Result Ended) (which place stream : ℕ) → answered v k o ≡ refused which place stream → o ≡ refused which place stream
 refused-of v k (ok y) which place stream e = absurd (never-both (sym e))
 refused-of v k (refused w p t) which place stream e = cc
-
--- what the pieces mean: kind, end, numbers, flags and counts
-abbrev pub meaningOf : Version → Kinds → Pieces → (e : ℕ) → Result Answer
-meaningOf v k p e = answered v k (ok (record { found = recordOf blank p; ends = e }))
 
 -- s' is as s but for soft bytes
 module _ (t : Tree) (v : Version) (k : Kinds) (s s' : List ℕ) (a : Softened (run t s 0) s s') (slots room : ℕ) where
@@ -71,7 +68,7 @@ module _ (op : ℕ) (v : Version) (s s' : List ℕ) where
 
     -- reading, with room for all its entries and payload, ends there too with what the sent bytes mean, or refuses by 3 at the first string that is no text
     pub soft-read-reply : (slots room e : ℕ) → skipDaemonResult op v s ≡ ok e → keptOf reply ≤ slots → totalOf reply ≤ room
-        → readDaemonResult op v s' slots room ≡ unlessBad s' reply (meaningOf v (kindBy (find op) (λ o. o .replyKind)) reply e)
+        → readDaemonResult op v s' slots room ≡ unlessBad s' reply (meaningOf v (replyKinds op) reply e)
     unfolding skipDaemonResult readDaemonResult
     soft-read-reply slots room e q h g = soft-read-of (replyTree op v) v _ s s' a slots room e q h g
 
@@ -83,7 +80,7 @@ module _ (op : ℕ) (v : Version) (s s' : List ℕ) where
   -- ---- arguments
   module _ (a : Softened (run (argumentsTree op v) s 0) s s') where
     pub soft-read-arguments : (slots room e : ℕ) → skipOf arguments ≡ ok e → keptOf arguments ≤ slots → totalOf arguments ≤ room
-        → readOpArgs op v s' slots room ≡ unlessBad s' arguments (meaningOf v (kindBy (find op) (λ o. o .argumentsKind)) arguments e)
+        → readOpArgs op v s' slots room ≡ unlessBad s' arguments (meaningOf v (argumentsKinds op) arguments e)
     unfolding readOpArgs
     soft-read-arguments slots room e q h g = soft-read-of (argumentsTree op v) v _ s s' a slots room e q h g
 
@@ -105,7 +102,7 @@ module _ (op : ℕ) (v : Version) (s : List ℕ) (slots room : ℕ) where
   pub read-skips : (x : Answer) → readDaemonResult op v s slots room ≡ ok x → skipDaemonResult op v s ≡ ok (x .ends)
   unfolding readDaemonResult skipDaemonResult
   read-skips x e =
-      let y = answer-of v (kindBy (find op) (λ o. o .replyKind)) (judgeOf s slots room blank (run (replyTree op v) s 0)) x e in
+      let y = answer-of v (replyKinds op) (judgeOf s slots room blank (run (replyTree op v) s 0)) x e in
       let z : y .0 .ends ≡ x .ends = cc in
       judge-read s slots room blank (run (replyTree op v) s 0) (y .0) (y .1) .skips ∙ ap ok z
 

@@ -10,7 +10,8 @@ use Rattle.layouts.specs.Primitive.{numberAt, numberBytes, padOf, ok}
 use Rattle.layouts.specs.Shape.{Slot, Role, Tree, ask, say, frames, fail, stop}
 use Rattle.layouts.specs.Pieces.{Pieces, number, text, chunk, Num, Text, Chunk, afterNum, afterText, afterChunk, chunks, run, skipOf}
 use Rattle.layouts.specs.Grammar.{Says, says-number, says-text, says-chunk, says-last, says-end}
-use Rattle.layouts.proofs.Little.{Bytes, number-drop, number-small, number-of-bytes, bytes-of-number, length-number}
+use Rattle.layouts.specs.Demands.{Bytes}
+use Rattle.layouts.proofs.Little.{number-drop, number-small, number-of-bytes, bytes-of-number, length-number}
 use Rattle.layouts.proofs.Views.{NumView, is-value, is-short, TextView, no-length, too-long, no-contents, no-padding, is-whole, ChunkView, no-size, is-last, too-large, no-bytes, is-part, num-view, text-view, chunk-view}
 use Rattle.layouts.proofs.Steps.{ask-value, say-whole, frames-last, frames-part}
 
@@ -23,10 +24,10 @@ module _ (s : List ℕ) (at n : ℕ) (l : List ℕ) (e : drop at s ≡ numberByt
   pub head-number : n < 18446744073709551616 → n ≡ numberAt s at
   head-number h = sym (sym (number-drop s at) ∙ ap (λ (z : List ℕ). numberAt z 0) e ∙ number-of-bytes n l h)
 
-  head-size : at + 8 + length l ≡ length s
+  pub head-size : at + 8 + length l ≡ length s
   head-size = omega (arith, simp (length-drop, length-append, length-number) at (ap length e))
 
-  head-past : drop (at + 8) s ≡ l
+  pub head-past : drop (at + 8) s ≡ l
   head-past = past s at 8 (numberBytes n) l e (length-number n)
 
 -- whatever the grammar has is read, with its pieces

@@ -15,6 +15,7 @@ use Rattle.layouts.specs.Pieces.{Pieces, number, text, half, chunk, end,
 use Rattle.layouts.specs.Record.{noted, isKept, entered, withPayload, recordOf}
 use Rattle.layouts.specs.Judge.{notText, textTaken, halfTaken, chunkTaken, Ended, judgeOf, entry, entriesOf, payloadOf}
 use Rattle.layouts.specs.Soft.{keptOf, orBad, unlessBad}
+use Rattle.layouts.specs.Demands.{RefusedBy}
 use Rattle.layouts.proofs.Placed.{never-both, Placed, on-number, on-text, on-half, on-chunk, on-end, on-fault, refused-from}
 
 -- a number moves neither entries nor payload
@@ -74,10 +75,6 @@ chunk-step room r start len = by (leb (r .payload + len) room) refl
         (pick b (ok (withPayload r (r .payload + len))) (refused noPayloadRoom (start - 8) 0))
     by true e = goes-on refl (leb-true (r .payload + len) room e)
     by false e = no-room noPayloadRoom (leb-false (r .payload + len) room e)
-
--- refused, at this place or an earlier one
-abbrev pub RefusedBy : {A : Type 0} → (place : ℕ) → Result A → Type 0
-RefusedBy place o = (which : ℕ) × (earlier : ℕ) × (o ≡ refused which earlier 0) × (earlier ≤ place)
 
 -- what follows it: with room for all; in an answer; before a refusal
 module _ {bad : Bool} {lacks fits : Type 0} {start : ℕ} {r : Record} (k : Record → Result Ended) where

@@ -1,4 +1,4 @@
--- Theorems about the definitions of `specs/`. `Exact`, `RoundTrip`, `Theorems`, `Calls`, `Arguments`, `Talk` and `Examples` hold what docs/PROOFS.md cites; the
+-- Theorems about the definitions of `specs/`. `Exact`, `RoundTrip`, `Theorems`, `Calls`, `Arguments`, `Talk`, `Refusals` and `Examples` hold what docs/PROOFS.md cites; the
 -- others serve them and the crates above.
 pub mod Little
 pub mod Views
@@ -15,5 +15,10 @@ pub mod Arguments
 pub mod RoundTrip
 pub mod Stderr
 pub mod Talk
+pub mod Faults
+pub mod Outcomes
+pub mod Turns
+pub mod LowerCase
+pub mod Refusals
 pub mod Examples
 pub mod Unique

@@ -6,10 +6,7 @@ use lib.ListN.{length, getD, drop}
 use lib.Seq.{getD-drop}
 use native.Mathlib.Omega.{arith}
 use Rattle.layouts.specs.Primitive.{littleAt, littleEnd, numberAt, numberBytes}
-
--- the elements of a list are bytes
-abbrev pub Bytes : List ℕ → Type 0
-Bytes s = (x : ℕ) → getD s x 0 < 256
+use Rattle.layouts.specs.Demands.{Bytes}
 
 -- a number depends on its own bytes only
 pub little-same : (k : ℕ) (s s' : List ℕ) (at : ℕ) → ((x : ℕ) → at ≤ x → x < at + k → getD s' x 0 ≡ getD s x 0) → littleAt k s' at ≡ littleAt k s at

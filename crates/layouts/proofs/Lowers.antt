@@ -15,7 +15,8 @@ use Rattle.layouts.specs.Soft.{keptOf}
 use Rattle.layouts.specs.Calls.{skipFramed}
 use Rattle.layouts.proofs.Views.{NumView, is-value, is-short, TextView, no-length, too-long, no-contents, no-padding, is-whole, num-view, text-view}
 use Rattle.layouts.proofs.Placed.{never-both, ends, run-placed}
-use Rattle.layouts.proofs.Judge.{noted-room, entered-room, Step, is-bad, no-room, goes-on, text-step, RefusedBy, judge-read}
+use Rattle.layouts.specs.Demands.{RefusedBy}
+use Rattle.layouts.proofs.Judge.{noted-room, entered-room, Step, is-bad, no-room, goes-on, text-step, judge-read}
 
 pub not-both : {b : Bool} → b ≡ true → b ≡ false → ⊥
 not-both e f = let z : _≡_ {A = ℕ} 0 1 = cc in omega arith

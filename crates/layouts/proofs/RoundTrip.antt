@@ -9,6 +9,8 @@ use borrow.Author.Tests.{not-false, le-leb, lt-leb, lt-ltb}
 use native.Mathlib.Omega.{arith}
 use native.Mathlib.Nat.{add-zero}
 use Rattle.text.specs.Prefix.{isText}
+use Rattle.text.specs.Rfc3629.{Text}
+use Rattle.text.proofs.Meaning.{is-text, text-is}
 use Rattle.layouts.specs.declared.Record.{Record}
 use Rattle.layouts.specs.Primitive.{pick, numberAt, numberBytes, limit, padOf, badText, Result, ok, refused, onward}
 use Rattle.layouts.specs.Shape.{kept, asCount, str, set, units, layout, stop}
@@ -18,7 +20,8 @@ use Rattle.layouts.specs.Judge.{Ended, notText, textTaken, judgeOf, entr
 use Rattle.layouts.specs.Grammar.{Says, says-number, says-text, says-end}
 use Rattle.layouts.specs.Calls.{field, readString, readStringSet}
 use Rattle.layouts.specs.Writers.{viewOf, stringBytes, stringsBytes, setBytes, textAt, textsFrom, textsOf, writing, writeStringSet}
-use Rattle.layouts.proofs.Little.{Bytes, length-number}
+use Rattle.layouts.specs.Demands.{Bytes, Strings, Zeros, ZeroPadded}
+use Rattle.layouts.proofs.Little.{length-number}
 use Rattle.layouts.proofs.Placed.{never-both}
 use Rattle.layouts.proofs.Judge.{judge-read}
 use Rattle.layouts.proofs.Exact.{past, head-number, complete, read-grammar}
@@ -29,11 +32,6 @@ stringPieces s = run (field (str kept)) s 0
 
 abbrev pub setPieces : List ℕ → Pieces
 setPieces s = run (field (set kept (asCount 0))) s 0
-
--- strings that are text of at most 268,435,456 bytes
-abbrev pub Strings : List (List ℕ) → Type 0
-Strings [] = Unit {0}
-Strings (c ∷ cs) = (isText c ≡ true) × (length c ≤ limit) × Strings cs
 
 -- a string at a place, with any padding
 record StringAt (s : List ℕ) (at : ℕ) (c pad l : List ℕ) : Type 0 where
@@ -94,7 +92,7 @@ module _ (s u : List ℕ) where
   judge-strings (c ∷ cs) at slots room n last r e g a b l =
       let w = first-at c cs at e in
       let l' = simp (length-append, length-number, length-replicate) at l in
-      simp (w .contents, g .0, lt-leb slots (r .entries) (omega arith))
+      simp (w .contents, text-is c (g .0), lt-leb slots (r .entries) (omega arith))
       (judge-strings cs (at + 8 + length c + padOf (length c)) slots room n last (withEntries r (r .entries + 1)) (w .after) (g .2) (omega arith) b (omega arith))
 
   texts-strings : (cs : List (List ℕ)) (at i : ℕ) (es : List ℕ) → drop at s ≡ stringsBytes cs ++ u → Strings cs → drop (2 * i) es ≡ entriesOf (piecesOf at cs)
@@ -107,10 +105,10 @@ module _ (s u : List ℕ) where
       let es' = entriesOf (piecesOf (at + 8 + n + padOf n) cs) in
       let k : 2 * (i + 1) ≡ 2 * i + 2 = omega arith in
       let d' : drop (2 * (i + 1)) es ≡ es' = rw k (past es (2 * i) 2 ((at + 8) ∷ n ∷ []) es' d refl) in
-      simp (view-at s es i (at + 8) n es' d (w .fits), w .contents, g .0, texts-strings cs (at + 8 + n + padOf n) (i + 1) es (w .after) (g .2) d')
+      simp (view-at s es i (at + 8) n es' d (w .fits), w .contents, text-is c (g .0), texts-strings cs (at + 8 + n + padOf n) (i + 1) es (w .after) (g .2) d')
 
 -- demand 2, there: a string
-module _ (c rest : List ℕ) (textual : isText c ≡ true) (small : length c ≤ limit) where
+module _ (c rest : List ℕ) (textual : Text c) (small : length c ≤ limit) where
   alone : drop 0 (stringBytes c ++ rest) ≡ stringsBytes (c ∷ []) ++ rest
   unfolding stringsBytes
   alone = rw append-nil
@@ -164,18 +162,7 @@ module _ (cs : List (List ℕ)) (rest : List ℕ) (g : Strings cs) (h : length c
   unfolding writeStringSet
   set-rewritten lent = rw set-shown
 
--- demand 2, back: all padding that the pieces have is zero
-abbrev pub Zeros : List ℕ → (from next : ℕ) → Type 0
-Zeros s from next = (i : ℕ) → from ≤ i → i < next → getD s i 0 ≡ 0
-
-unfoldable pub ZeroPadded : List ℕ → Pieces → Type 0
-ZeroPadded s (number i place n p) = ZeroPadded s p
-ZeroPadded s (text m start len p) = Zeros s (start + len) (start + len + padOf len) × ZeroPadded s p
-ZeroPadded s (half m start len) = Unit {0}
-ZeroPadded s (chunk start len p) = ZeroPadded s p
-ZeroPadded s (end place) = Unit {0}
-ZeroPadded s (fault which place) = Unit {0}
-
+-- demand 2, back
 zeros : (s : List ℕ) (at n : ℕ) (pad l : List ℕ) → drop at s ≡ pad ++ l → length pad ≡ n → Zeros s at (at + n) → replicate n 0 ≡ pad
 zeros s at n pad l e g z =
     ext-getD 0 (replicate n 0) pad (length-replicate n 0 ∙ sym g)
@@ -206,7 +193,7 @@ strings-back s u slots room (suc n) at b p r x (says-text m at' k c pad b' p' l 
     let i = strings-back s u slots room n (at + 8 + length c + padOf (length c)) b' p' (o .0) x y (w .after) (z .1) (o .2) in
     let t = rw (w .contents) at (taken-text s slots r (o .0) (at + 8) (length c) (o .1)) in
     let d = zeros s (at + 8 + length c) (padOf (length c)) pad (b' ++ u) (w .padding) g (z .0) in
-    (c ∷ i .0, simp (append-assoc, d, i .1), ap suc (i .2), (t, l, i .3))
+    (c ∷ i .0, simp (append-assoc, d, i .1), ap suc (i .2), (is-text c t, l, i .3))
 
 ended : {at : ℕ} {b : List ℕ} {p : Pieces} → Says stop at b p → b ≡ []
 ended (says-end at) = refl

@@ -6,8 +6,8 @@ use lib.ListN.{length}
 use native.Mathlib.Omega.{arith}
 use Rattle.layouts.specs.Primitive.{numberAt, padOf}
 use Rattle.layouts.specs.Shape.{Slot, Role, Tree, ask, say, frames}
-use Rattle.layouts.specs.Pieces.{Pieces, number, text, chunk, fault, Text, Chunk, textOf, chunkOf, afterText, afterChunk, chunks, run}
-use Rattle.layouts.proofs.Views.{ChunkView, no-size, is-last, too-large, no-bytes, is-part, chunk-view, num-value, num-short, text-whole, chunk-short, chunk-long, chunk-cut, chunk-part, chunk-last}
+use Rattle.layouts.specs.Pieces.{Pieces, number, text, half, chunk, fault, Text, Chunk, textOf, chunkOf, afterText, afterChunk, chunks, run}
+use Rattle.layouts.proofs.Views.{ChunkView, no-size, is-last, too-large, no-bytes, is-part, chunk-view, num-value, num-short, text-short, text-long, text-contents, text-cut, text-whole, chunk-short, chunk-long, chunk-cut, chunk-part, chunk-last}
 
 -- any two bounds on the chunks will do, if they are large enough
 same-chunk : (size n at : ℕ) {m : Chunk} (again again' k : ℕ → Pieces) → ChunkView size n at m
@@ -41,6 +41,22 @@ module _ (s : List ℕ) (at n : ℕ) (e : n ≡ numberAt s at) where
     say-as : (m : Text) → textOf (length s) n at ≡ m → run (say r k) s at ≡ afterText m r (λ a. run (k tt) s a)
     unfolding run
     say-as m q = rw (← e, q)
+
+    pub say-short : length s < at + 8 → run (say r k) s at ≡ fault 1 at
+    unfolding afterText
+    say-short h = say-as _ (text-short (length s) n at h)
+
+    pub say-long : at + 8 ≤ length s → 268435456 < n → run (say r k) s at ≡ fault 2 at
+    unfolding afterText
+    say-long h l = say-as _ (text-long (length s) n at h l)
+
+    pub say-cut : at + 8 ≤ length s → n ≤ 268435456 → length s < at + 8 + n → run (say r k) s at ≡ fault 1 (at + 8)
+    unfolding afterText
+    say-cut h l c = say-as _ (text-contents (length s) n at l h c)
+
+    pub say-half : at + 8 + n ≤ length s → n ≤ 268435456 → length s < at + 8 + n + padOf n → run (say r k) s at ≡ half r (at + 8) n
+    unfolding afterText
+    say-half h l c = say-as _ (text-cut (length s) n at l h c)
 
     pub say-whole : at + 8 + n + padOf n ≤ length s → n ≤ 268435456 → run (say r k) s at ≡ text r (at + 8) n (run (k tt) s (at + 8 + n + padOf n))
     unfolding afterText

@@ -3,19 +3,23 @@
 use Prim.Native.Nat.{ℕ, _+_, _≤_, _<_}
 use mathlib.Core.Path.{_≡_, refl, sym, _∙_, ap}
 use mathlib.Core.List.{List}
-use mathlib.Core.Bool.{Bool, true, false}
+use mathlib.Core.Bool.{Bool, true, false, not, _&&_}
 use lib.ListN.{length, getD, take, drop, length-take, length-drop}
 use lib.Seq.{getD-take, getD-drop, ext-getD}
 use native.Mathlib.Omega.{arith}
+use borrow.Author.Tests.{not-false}
+use Rattle.text.specs.Prefix.{isText}
+use Rattle.text.proofs.Meaning.{is-text, text-is}
 use Rattle.layouts.specs.Primitive.{Version, badText, Result, ok, refused}
 use Rattle.layouts.specs.Shape.{Slot, Role, Group, Tree, layout}
 use Rattle.layouts.specs.Pieces.{Pieces, number, text, half, chunk, end, fault, run, skipOf, totalOf}
 use Rattle.layouts.specs.Record.{blank, recordOf}
-use Rattle.layouts.specs.Judge.{notText, Ended, judgeOf, entriesOf}
+use Rattle.layouts.specs.Judge.{isDecoded, notText, Ended, judgeOf, entriesOf}
 use Rattle.layouts.specs.Soft.{Softened, keptOf, orBad, unlessBad}
+use Rattle.layouts.specs.Demands.{RefusedBy, Fine, Bad, AllText, FirstBad, here, here-cut, after-number, after-text, after-chunk, Verdict, all-text, first-bad}
 use Rattle.layouts.proofs.Soft.{soft-run}
 use Rattle.layouts.proofs.Placed.{run-placed}
-use Rattle.layouts.proofs.Judge.{RefusedBy, judge-room, judge-read, judge-refused}
+use Rattle.layouts.proofs.Judge.{judge-room, judge-read, judge-refused}
 use Rattle.layouts.proofs.Trees.{layout-never-fails}
 
 -- s' is as s but for soft bytes
@@ -54,27 +58,22 @@ pub skip-refused : (v : Version) (gs : List Group) (s : List ℕ) (slots room wh
     → RefusedBy place (judgeOf s slots room blank (run (layout v gs) s 0))
 skip-refused v gs s slots room which place q = judge-refused s slots room blank (layout-never-fails v gs) (run-placed (layout v gs) s 0 (omega arith)) q
 
--- every decoded string is text
-abbrev pub AllText : List ℕ → Pieces → Type 0
-AllText s (number i place n p) = AllText s p
-AllText s (text m start len p) = (notText s m start len ≡ false) × AllText s p
-AllText s (half m start len) = notText s m start len ≡ false
-AllText s (chunk start len p) = AllText s p
-AllText s (end place) = Unit {0}
-AllText s (fault which place) = Unit {0}
+pub never-true : false ≡ true → ⊥
+never-true e = let z : _≡_ {A = ℕ} 0 1 = cc in omega arith
 
--- the first decoded string that is not text has its contents here
-pub data FirstBad (s : List ℕ) : Pieces → (start : ℕ) → Type 0 where
-  here : {m : Role} {start len : ℕ} {p : Pieces} → notText s m start len ≡ true → FirstBad s (text m start len p) start
-  here-cut : {m : Role} {start len : ℕ} → notText s m start len ≡ true → FirstBad s (half m start len) start
-  after-number : {i : Slot} {place n x : ℕ} {p : Pieces} → FirstBad s p x → FirstBad s (number i place n p) x
-  after-text : {m : Role} {start len x : ℕ} {p : Pieces} → notText s m start len ≡ false → FirstBad s p x → FirstBad s (text m start len p) x
-  after-chunk : {start len x : ℕ} {p : Pieces} → FirstBad s p x → FirstBad s (chunk start len p) x
+-- what `notText` says, in RFC 3629's words
+module _ (s : List ℕ) (m : Role) (start len : ℕ) where
+  not-bad : notText s m start len ≡ false → Fine s m start len
+  unfolding notText
+  not-bad e d = is-text (take len (drop start s)) (not-false (isText (take len (drop start s))) (rw d at e))
 
--- one of two: o, and every decoded string is text; 3 at the first that is not
-pub data Verdict {A : Type 0} (s : List ℕ) (p : Pieces) (o : Result A) : Result A → Type 0 where
-  all-text : AllText s p → Verdict s p o o
-  first-bad : {start : ℕ} → FirstBad s p start → Verdict s p o (refused badText start 0)
+  is-bad : notText s m start len ≡ true → Bad s m start len
+  unfolding notText
+  is-bad e = by (isDecoded m) refl e
+    where
+      by : (b : Bool) → isDecoded m ≡ b → b && not (isText (take len (drop start s))) ≡ true → Bad s m start len
+      by true d h = (d, λ t. let z = text-is (take len (drop start s)) t in never-true (rw z at h))
+      by false d h = absurd (never-true h)
 
 module _ {A : Type 0} (s : List ℕ) where
   onto : {p q : Pieces} {o u : Result A} → (AllText s p → AllText s q) → ((x : ℕ) → FirstBad s p x → FirstBad s q x) → Verdict s p o u → Verdict s q o u
@@ -87,13 +86,13 @@ module _ {A : Type 0} (s : List ℕ) where
   unless-bad (text m start len p) o = by (notText s m start len) refl (unless-bad p o)
     where
       by : {u : Result A} (b : Bool) → notText s m start len ≡ b → Verdict s p o u → Verdict s (text m start len p) o (orBad b start u)
-      by true e h = first-bad (here e)
-      by false e h = onto (λ y. (e, y)) (λ x. after-text e) h
+      by true e h = first-bad (here (is-bad s m start len e))
+      by false e h = let f = not-bad s m start len e in onto (λ y. (f, y)) (λ x. after-text f) h
   unless-bad (half m start len) o = by (notText s m start len) refl
     where
       by : (b : Bool) → notText s m start len ≡ b → Verdict s (half m start len) o (orBad b start o)
-      by true e = first-bad (here-cut e)
-      by false e = all-text e
+      by true e = first-bad (here-cut (is-bad s m start len e))
+      by false e = all-text (not-bad s m start len e)
   unless-bad (chunk start len p) o = onto (λ h. h) (λ x. after-chunk) (unless-bad p o)
   unless-bad (end place) o = all-text tt
   unless-bad (fault which place) o = all-text tt

@@ -10,7 +10,7 @@ use Rattle.layouts.specs.Shape.{dropped, asNumber, asCount, passed, kept
 use Rattle.layouts.specs.Pieces.{Pieces, Num, numOf, run, skipOf, totalOf}
 use Rattle.layouts.specs.Record.{blank, withNumber}
 use Rattle.layouts.specs.Judge.{Ended, judgeOf, entriesOf, payloadOf, lentAfter}
-use Rattle.layouts.specs.Operations.{Kinds, only, None, kindOf, skipKind, skipped, until, Operation, Row, row, unknown, find}
+use Rattle.layouts.specs.Operations.{argumentsNumber, replyNumber, skippedNumber, Kinds, none, byNumber, kindOf, skippedKind, Operation, Row, row, unknown, find}
 
 -- a layout by operation; 9 before any byte
 abbrev pub byRow : Row → (Operation → Tree) → Tree
@@ -20,19 +20,24 @@ byRow unknown k = fail unknownOperation 0
 unfoldable pub argumentsTree : ℕ → Version → Tree
 argumentsTree op v = byRow (find op) (λ o. layout v (once (o .arguments) ∷ []))
 
--- below 1.25 AddToStore has S N N s
-abbrev pub older : ℕ → List Item
-older op = pick (eqb op 7) (until 25 (str kept ∷ num dropped ∷ num dropped ∷ str passed ∷ [])) []
-
 unfoldable pub skippedTree : ℕ → Version → Tree
-skippedTree op v = byRow (find op) (λ o. layout v (once (older op ++ skipped (o .skip) (o .arguments)) ∷ []))
+skippedTree op v = byRow (find op) (λ o. layout v (once (o .skips) ∷ []))
 
 unfoldable pub replyTree : ℕ → Version → Tree
 replyTree op v = byRow (find op) (λ o. layout v (o .reply))
 
 abbrev pub kindBy : Row → (Operation → Kinds) → Kinds
 kindBy (row o) k = k o
-kindBy unknown k = only None
+kindBy unknown k = none
+
+abbrev pub argumentsKinds : (op : ℕ) → Kinds
+argumentsKinds op = kindBy (find op) (λ o. byNumber argumentsNumber (o .argumentsKind))
+
+abbrev pub skippedKinds : (op : ℕ) → Kinds
+skippedKinds op = kindBy (find op) (λ o. byNumber skippedNumber (skippedKind (o .skip)))
+
+abbrev pub replyKinds : (op : ℕ) → Kinds
+replyKinds op = kindBy (find op) (λ o. byNumber replyNumber (o .replyKind))
 
 -- ---- answers: kind, end (a handshake has two), numbers and counts
 pub record Answer : Type 0 where
@@ -48,17 +53,17 @@ abbrev pub readOf : Version → Kinds → (slots room : ℕ) → List ℕ → Tr
 readOf v k slots room s t = answered v k (judgeOf s slots room blank (run t s 0))
 
 unfoldable pub readOpArgs : (op : ℕ) → Version → List ℕ → (slots room : ℕ) → Result Answer
-readOpArgs op v s slots room = readOf v (kindBy (find op) (λ o. o .argumentsKind)) slots room s (argumentsTree op v)
+readOpArgs op v s slots room = readOf v (argumentsKinds op) slots room s (argumentsTree op v)
 
 unfoldable pub readDaemonResult : (op : ℕ) → Version → List ℕ → (slots room : ℕ) → Result Answer
-readDaemonResult op v s slots room = readOf v (kindBy (find op) (λ o. o .replyKind)) slots room s (replyTree op v)
+readDaemonResult op v s slots room = readOf v (replyKinds op) slots room s (replyTree op v)
 
 unfoldable pub skipDaemonResult : (op : ℕ) → Version → List ℕ → Result ℕ
 skipDaemonResult op v s = skipOf (run (replyTree op v) s 0)
 
 -- one string is kept, and stands in the answer itself
 unfoldable pub skipOpArgs : (op : ℕ) → Version → List ℕ → Result Answer
-skipOpArgs op v s = readOf v (kindBy (find op) (λ o. skipKind (o .skip))) 1 0 s (skippedTree op v)
+skipOpArgs op v s = readOf v (skippedKinds op) 1 0 s (skippedTree op v)
 
 -- lent memory after a read of these pieces
 abbrev pub entriesAfter : Result Answer → Pieces → (lent : List ℕ) → List ℕ
@@ -91,10 +96,6 @@ skipString s at = skipOf (run (field (str passed)) s at)
 
 abbrev pub readString : List ℕ → (at : ℕ) → Result Ended
 readString s at = readField (str kept) s at 1 0
-
--- the one string of read_bytes and read_string: its entry stands in the answer itself
-abbrev pub stringEntry : List ℕ → (at : ℕ) → List ℕ
-stringEntry s at = (at + 8) ∷ numberAt s at ∷ []
 
 -- the count is count 0, and of a skipped set number 0
 abbrev pub readStringSet : List ℕ → (at slots : ℕ) → Result Ended

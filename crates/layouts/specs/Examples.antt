@@ -4,8 +4,10 @@ use mathlib.Core.List.{List, [], _∷_, _++_}
 use mathlib.Core.Bool.{Bool}
 use lib.ListN.{replicate, getD}
 use Rattle.layouts.specs.Primitive.{pick, numberBytes, version, fromWire, atLeast, Version, Result, ok, refused}
-use Rattle.layouts.specs.Judge.{Ended}
-use Rattle.layouts.specs.Calls.{Answer, readOpArgs, skipOpArgs, skipDaemonResult, skipString, readString, readStringSet, readFramed}
+use Rattle.layouts.specs.Shape.{kept, str, framed}
+use Rattle.layouts.specs.Pieces.{run}
+use Rattle.layouts.specs.Judge.{Ended, entriesOf, payloadOf}
+use Rattle.layouts.specs.Calls.{Answer, readOpArgs, skipOpArgs, skipDaemonResult, field, skipString, readString, readStringSet, readFramed}
 use Rattle.layouts.specs.Stderr.{Next, Last, readStderrLoop}
 use Rattle.layouts.specs.Handshake.{parseHandshake}
 
@@ -39,10 +41,20 @@ ex c s = record { computed = c; stated = s }
 abbrev pub N# : ℕ → List ℕ
 N# x = numberBytes x
 
+-- streams that two parts of an example read
+abbrev pub bin7 : List ℕ
+bin7 = N# 4 ++ (0x62 ∷ 0x69 ∷ 0x6e ∷ 0x37 ∷ []) ++ replicate 4 0xFF
+
+abbrev pub framed-ab : List ℕ
+framed-ab = N# 2 ++ (0x61 ∷ 0x62 ∷ []) ++ N# 0
+
+abbrev pub around-two : List ℕ
+around-two = N# 0 ++ N# 1 ++ N# 1 ++ N# 0
+
 unfoldable pub examples : List Example
 examples =
-    -- P1 length 4, bin7, four bytes FF: string, end 16
-    ex (seen (readString (N# 4 ++ (0x62 ∷ 0x69 ∷ 0x6e ∷ 0x37 ∷ []) ++ replicate 4 0xFF) 0)) (0 ∷ 16 ∷ []) ∷
+    -- P1 length 4, bin7, four bytes FF: string, end 16. Its entry: from 8 on, 4 bytes
+    ex (seen (readString bin7 0) ++ entriesOf (run (field (str kept)) bin7 0)) (0 ∷ 16 ∷ 8 ∷ 4 ∷ []) ∷
     -- P2 length 0: end 8
     ex (seen (readString (N# 0) 0)) (0 ∷ 8 ∷ []) ∷
     -- P3 length 268435457 and nothing more: 2 at 0
@@ -59,10 +71,10 @@ examples =
     ex (told (readStderrLoop (replicate 5 0))) (0 ∷ 0 ∷ 0 ∷ 0 ∷ []) ∷
     -- P9 Next, empty string, Last: count 2, Last, end 24
     ex (told (readStderrLoop (N# Next ++ N# 0 ++ N# Last))) (0 ∷ 24 ∷ 2 ∷ Last ∷ []) ∷
-    -- P10 framed 2, ab, 0: end 18; room 1: 5 at 0
-    ex (seen (readFramed (N# 2 ++ (0x61 ∷ 0x62 ∷ []) ++ N# 0) 0 2) ++ seen (readFramed (N# 2 ++ (0x61 ∷ 0x62 ∷ []) ++ N# 0) 0 1)) (0 ∷ 18 ∷ 5 ∷ 0 ∷ []) ∷
+    -- P10 framed 2, ab, 0: end 18; room 1: 5 at 0. Its payload: ab
+    ex (seen (readFramed framed-ab 0 2) ++ seen (readFramed framed-ab 0 1) ++ payloadOf framed-ab (run (field framed) framed-ab 0)) (0 ∷ 18 ∷ 5 ∷ 0 ∷ 0x61 ∷ 0x62 ∷ []) ∷
     -- P11 AddToStore arguments at 1.24: read none, end 0; skip of two empty strings around two numbers ends 32
-    ex (told (readOpArgs 7 (version 1 24) [] 0 0) ++ told (skipOpArgs 7 (version 1 24) (N# 0 ++ N# 1 ++ N# 1 ++ N# 0))) (0 ∷ 0 ∷ 0 ∷ 0 ∷ 2 ∷ 32 ∷ 0 ∷ 0 ∷ []) ∷
+    ex (told (readOpArgs 7 (version 1 24) around-two 0 0) ++ told (skipOpArgs 7 (version 1 24) around-two)) (0 ∷ 0 ∷ 0 ∷ 0 ∷ 2 ∷ 32 ∷ 0 ∷ 0 ∷ []) ∷
     -- P12 set count 2^64 - 1 alone: 1 at 8
     ex (seen (readStringSet (replicate 8 0xFF) 0 0)) (1 ∷ 8 ∷ []) ∷
     []

@@ -11,6 +11,8 @@ pub mod Stderr
 pub mod Handshake
 pub mod Writers
 pub mod Grammar
+pub mod Refusals
+pub mod Demands
 pub mod Examples
 -- not of document 01: what a refusal of the code means in its words
 pub mod Refusal

@@ -5,7 +5,7 @@ use mathlib.Core.List.{List, [], _∷_, _++_, map}
 use mathlib.Core.Bool.{Bool, true, false}
 use lib.Dec.{eqb}
 use Rattle.layouts.specs.Primitive.{pick, Version, version, atLeast}
-use Rattle.layouts.specs.Shape.{Slot, dropped, asNumber, asFlag, asCount, asPresence, passed, checked, kept, What, num, str, set, pairs, framed, maybe, typed, Item, always, from, below, Group, once, opt, many}
+use Rattle.layouts.specs.Shape.{Slot, dropped, asNumber, asFlag, asCount, asPresence, passed, checked, kept, What, num, str, set, pairs, framed, maybe, typed, Item, always, from, below, between, Group, once, opt, many}
 
 -- ---- letters
 abbrev pub N : ℕ → Item
@@ -41,7 +41,8 @@ F = always framed
 abbrev pub gate : ℕ → Item → Item
 gate x (always w) = from x w
 gate x (from y w) = from (max x y) w
-gate x (below y w) = below y w
+gate x (below y w) = between x y w
+gate x (between y z w) = between (max x y) z w
 
 -- from 1.x all of these
 abbrev pub since : ℕ → List Item → List Item
@@ -50,58 +51,77 @@ since x xs = map (gate x) xs
 abbrev pub until : ℕ → List What → List Item
 until x ws = map (below x) ws
 
--- ---- kinds of answers, of arguments, replies and skipped arguments, with their numbers
-pub data Kind : Type 0 where
-  None : Kind
-  SinglePath SingleString PathSet PathSetFlag PathSetMode NoArgs SetOptions CollectGarbage VerifyStore AddPermRoot AddSignatures AddTextToStore AddToStore AddMultipleToStore AddBuildLog RegisterDrvOutput QueryRealisation QuerySubstitutablePathInfo QuerySubstitutablePathInfos : Kind
-  U64 Str PathInfo PathInfoOld NoPathInfo StringSet StringMap SubstitutablePathInfo NoSubstitutablePathInfo Missing Framed : Kind
-  EmptyText OneString CountOfPaths CountOfOverrides : Kind
+-- ---- kinds of answers, with their numbers: three types, so that no row names one of another call
+pub data ArgumentsKind : Type 0 where
+  SinglePath SingleString PathSet PathSetFlag PathSetMode NoArgs SetOptions CollectGarbage VerifyStore AddPermRoot AddSignatures AddTextToStore AddToStore AddMultipleToStore AddBuildLog RegisterDrvOutput QueryRealisation QuerySubstitutablePathInfo QuerySubstitutablePathInfos : ArgumentsKind
 
-abbrev pub kindNumber : Kind → ℕ
-kindNumber None = 0
-kindNumber SinglePath = 1
-kindNumber SingleString = 2
-kindNumber PathSet = 3
-kindNumber PathSetFlag = 4
-kindNumber PathSetMode = 5
-kindNumber NoArgs = 6
-kindNumber SetOptions = 7
-kindNumber CollectGarbage = 8
-kindNumber VerifyStore = 9
-kindNumber AddPermRoot = 10
-kindNumber AddSignatures = 11
-kindNumber AddTextToStore = 12
-kindNumber AddToStore = 13
-kindNumber AddMultipleToStore = 14
-kindNumber AddBuildLog = 15
-kindNumber RegisterDrvOutput = 16
-kindNumber QueryRealisation = 17
-kindNumber QuerySubstitutablePathInfo = 18
-kindNumber QuerySubstitutablePathInfos = 19
-kindNumber U64 = 1
-kindNumber Str = 2
-kindNumber PathInfo = 3
-kindNumber PathInfoOld = 4
-kindNumber NoPathInfo = 5
-kindNumber StringSet = 6
-kindNumber StringMap = 7
-kindNumber SubstitutablePathInfo = 9
-kindNumber NoSubstitutablePathInfo = 10
-kindNumber Missing = 11
-kindNumber Framed = 12
-kindNumber EmptyText = 1
-kindNumber OneString = 2
-kindNumber CountOfPaths = 3
-kindNumber CountOfOverrides = 4
+abbrev pub argumentsNumber : ArgumentsKind → ℕ
+argumentsNumber SinglePath = 1
+argumentsNumber SingleString = 2
+argumentsNumber PathSet = 3
+argumentsNumber PathSetFlag = 4
+argumentsNumber PathSetMode = 5
+argumentsNumber NoArgs = 6
+argumentsNumber SetOptions = 7
+argumentsNumber CollectGarbage = 8
+argumentsNumber VerifyStore = 9
+argumentsNumber AddPermRoot = 10
+argumentsNumber AddSignatures = 11
+argumentsNumber AddTextToStore = 12
+argumentsNumber AddToStore = 13
+argumentsNumber AddMultipleToStore = 14
+argumentsNumber AddBuildLog = 15
+argumentsNumber RegisterDrvOutput = 16
+argumentsNumber QueryRealisation = 17
+argumentsNumber QuerySubstitutablePathInfo = 18
+argumentsNumber QuerySubstitutablePathInfos = 19
 
--- one; one from 1.x on and another below; one where the flag is true and another where it is not
-pub data Kinds : Type 0 where
-  only : Kind → Kinds
-  byVersion : ℕ → Kinds → Kinds → Kinds
-  byFlag : Kinds → Kinds → Kinds
+pub data ReplyKind : Type 0 where
+  U64 Str PathInfo PathInfoOld NoPathInfo StringSet StringMap BytesFreed SubstitutablePathInfo NoSubstitutablePathInfo Missing Framed : ReplyKind
+
+abbrev pub replyNumber : ReplyKind → ℕ
+replyNumber U64 = 1
+replyNumber Str = 2
+replyNumber PathInfo = 3
+replyNumber PathInfoOld = 4
+replyNumber NoPathInfo = 5
+replyNumber StringSet = 6
+replyNumber StringMap = 7
+replyNumber BytesFreed = 8
+replyNumber SubstitutablePathInfo = 9
+replyNumber NoSubstitutablePathInfo = 10
+replyNumber Missing = 11
+replyNumber Framed = 12
+
+pub data SkippedKind : Type 0 where
+  EmptyText OneString CountOfPaths CountOfOverrides : SkippedKind
+
+abbrev pub skippedNumber : SkippedKind → ℕ
+skippedNumber EmptyText = 1
+skippedNumber OneString = 2
+skippedNumber CountOfPaths = 3
+skippedNumber CountOfOverrides = 4
+
+-- none; one; one from 1.x on and another below; one where the flag is true and another where it is not
+pub data Choice (K : Type 0) : Type 0 where
+  none : Choice K
+  only : K → Choice K
+  byVersion : ℕ → Choice K → Choice K → Choice K
+  byFlag : Choice K → Choice K → Choice K
+
+-- the same by numbers; none is 0
+abbrev pub Kinds : Type 0
+Kinds = Choice ℕ
+
+abbrev pub byNumber : {K : Type 0} → (K → ℕ) → Choice K → Kinds
+byNumber f none = none
+byNumber f (only k) = only (f k)
+byNumber f (byVersion x k l) = byVersion x (byNumber f k) (byNumber f l)
+byNumber f (byFlag k l) = byFlag (byNumber f k) (byNumber f l)
 
 unfoldable pub kindOf : Version → (present : Bool) → Kinds → ℕ
-kindOf v b (only k) = kindNumber k
+kindOf v b none = 0
+kindOf v b (only k) = k
 kindOf v b (byVersion x k l) = pick (atLeast v (version 1 x)) (kindOf v b k) (kindOf v b l)
 kindOf v b (byFlag k l) = pick b (kindOf v b k) (kindOf v b l)
 
@@ -113,12 +133,12 @@ pub data Skip : Type 0 where
   paths : Skip
   overrides : Skip
 
-abbrev pub skipKind : Skip → Kinds
-skipKind nothing = only None
-skipKind empty = only EmptyText
-skipKind first = only OneString
-skipKind paths = only CountOfPaths
-skipKind overrides = byVersion 12 (only CountOfOverrides) (only EmptyText)
+abbrev pub skippedKind : Skip → Choice SkippedKind
+skippedKind nothing = none
+skippedKind empty = only EmptyText
+skippedKind first = only OneString
+skippedKind paths = only CountOfPaths
+skippedKind overrides = byVersion 12 (only CountOfOverrides) (only EmptyText)
 
 abbrev pub countSlot : Skip → Slot
 countSlot nothing = dropped
@@ -141,6 +161,7 @@ abbrev pub loweredItem : Skip → Item → List Item
 loweredItem k (always w) = map always (lowered k w)
 loweredItem k (from x w) = map (from x) (lowered k w)
 loweredItem k (below x w) = map (below x) (lowered k w)
+loweredItem k (between x y w) = map (between x y) (lowered k w)
 
 abbrev pub loweredAll : Skip → List Item → List Item
 loweredAll k [] = []
@@ -159,19 +180,33 @@ skipped overrides xs = loweredAll overrides xs
 pub record Operation : Type 0 where
   pub code : ℕ
   pub arguments : List Item
-  pub argumentsKind : Kinds
+  pub argumentsKind : Choice ArgumentsKind
   pub skip : Skip
+  pub skips : List Item
   pub reply : List Group
-  pub replyKind : Kinds
+  pub replyKind : Choice ReplyKind
 
-abbrev pub op : ℕ → List Item → Kinds → Skip → List Group → Kinds → Operation
-op c a ak k r rk = record { code = c; arguments = a; argumentsKind = ak; skip = k; reply = r; replyKind = rk }
+abbrev pub op : ℕ → List Item → Choice ArgumentsKind → Skip → List Group → Choice ReplyKind → Operation
+op c a ak k r rk = record { code = c; arguments = a; argumentsKind = ak; skip = k; skips = skipped k a; reply = r; replyKind = rk }
+
+-- skipping alone has these too
+abbrev pub skipsToo : List Item → Operation → Operation
+skipsToo xs o =
+    record {
+      code = o .code;
+      arguments = o .arguments;
+      argumentsKind = o .argumentsKind;
+      skip = o .skip;
+      skips = xs ++ o .skips;
+      reply = o .reply;
+      replyKind = o .replyKind;
+    }
 
 -- Info: S S S* N N, from 1.16 flag S* S
 abbrev pub info : List Item
 info = S ∷ S ∷ S* 0 ∷ N 0 ∷ N 1 ∷ since 16 (flag 2 ∷ S* 1 ∷ S ∷ [])
 
-abbrev pub pathInfo : Kinds
+abbrev pub pathInfo : Choice ReplyKind
 pathInfo = byVersion 16 (only PathInfo) (only PathInfoOld)
 
 -- Build result: N s; from 1.29 four N; from 1.37 twice a flag with N if true; from 1.28 p
@@ -199,8 +234,9 @@ unfoldable pub operations : List Operation
 operations =
     op 1 (S ∷ []) (only SinglePath) first aNumber (only U64) ∷
     op 6 (S ∷ []) (only SinglePath) first aSet (only StringSet) ∷
-    op 7 (since 25 (S ∷ S ∷ S* 0 ∷ flag 0 ∷ F ∷ [])) (byVersion 25 (only AddToStore) (only None)) first
-    (once (until 25 (str kept ∷ []) ++ since 25 (always (str checked) ∷ info)) ∷ []) (byVersion 25 pathInfo (only Str)) ∷
+    skipsToo (until 25 (str kept ∷ num dropped ∷ num dropped ∷ str passed ∷ []))
+    (op 7 (since 25 (S ∷ S ∷ S* 0 ∷ flag 0 ∷ F ∷ [])) (byVersion 25 (only AddToStore) none) first
+    (once (until 25 (str kept ∷ []) ++ since 25 (always (str checked) ∷ info)) ∷ []) (byVersion 25 pathInfo (only Str))) ∷
     op 8 (S ∷ S ∷ S* 0 ∷ []) (only AddTextToStore) empty aString (only Str) ∷
     op 9 (S* 0 ∷ N 0 ∷ []) (only PathSetMode) paths aNumber (only U64) ∷
     op 10 (S ∷ []) (only SinglePath) first aNumber (only U64) ∷
@@ -209,8 +245,8 @@ operations =
     op 13 [] (only NoArgs) empty aNumber (only U64) ∷
     op 14 [] (only NoArgs) empty aMap (only StringMap) ∷
     op 18 (S ∷ []) (only SinglePath) first aString (only Str) ∷
-    op 19 options (only SetOptions) overrides [] (only None) ∷
-    op 20 (N 0 ∷ S* 0 ∷ N 1 ∷ N 2 ∷ n ∷ n ∷ n ∷ []) (only CollectGarbage) empty (once (N 0 ∷ n ∷ n ∷ []) ∷ []) (only CollectGarbage) ∷
+    op 19 options (only SetOptions) overrides [] none ∷
+    op 20 (N 0 ∷ S* 0 ∷ N 1 ∷ N 2 ∷ n ∷ n ∷ n ∷ []) (only CollectGarbage) empty (once (N 0 ∷ n ∷ n ∷ []) ∷ []) (only BytesFreed) ∷
     op 21 (S ∷ []) (only QuerySubstitutablePathInfo) first (opt asPresence (S ∷ S* 0 ∷ N 0 ∷ N 1 ∷ []) ∷ []) (byFlag (only SubstitutablePathInfo) (only NoSubstitutablePathInfo)) ∷
     op 22 (S ∷ []) (only SinglePath) first aSet (only StringSet) ∷
     op 23 [] (only NoArgs) empty aSet (only StringSet) ∷
@@ -223,17 +259,17 @@ operations =
     op 33 (S ∷ []) (only SinglePath) first aSet (only StringSet) ∷
     op 34 [] (only NoArgs) empty aNumber (only U64) ∷
     op 35 (flag 0 ∷ flag 1 ∷ []) (only VerifyStore) empty aNumber (only U64) ∷
-    op 36 [] (only None) nothing (once buildResult ∷ []) (only None) ∷
+    op 36 [] none nothing (once buildResult ∷ []) none ∷
     op 37 (S ∷ S* 0 ∷ []) (only AddSignatures) first aNumber (only U64) ∷
-    op 38 (S ∷ []) (only SinglePath) first (once (since 23 (F ∷ [])) ∷ []) (byVersion 23 (only Framed) (only None)) ∷
-    op 39 [] (only None) nothing [] (only None) ∷
+    op 38 (S ∷ []) (only SinglePath) first (once (since 23 (F ∷ [])) ∷ []) (byVersion 23 (only Framed) none) ∷
+    op 39 [] none nothing [] none ∷
     op 40 (S* 0 ∷ []) (only PathSet) paths (once (S* 0 ∷ S* 1 ∷ S* 2 ∷ N 0 ∷ N 1 ∷ []) ∷ []) (only Missing) ∷
     op 41 (S ∷ []) (only SinglePath) first aMap (only StringMap) ∷
-    op 42 (S ∷ []) (only RegisterDrvOutput) first [] (only None) ∷
+    op 42 (S ∷ []) (only RegisterDrvOutput) first [] none ∷
     op 43 (S ∷ []) (only QueryRealisation) first aSet (only StringSet) ∷
-    op 44 (flag 0 ∷ flag 1 ∷ F ∷ []) (only AddMultipleToStore) empty [] (only None) ∷
+    op 44 (flag 0 ∷ flag 1 ∷ F ∷ []) (only AddMultipleToStore) empty [] none ∷
     op 45 (S ∷ F ∷ []) (only AddBuildLog) first aNumber (only U64) ∷
-    op 46 (S* 0 ∷ N 0 ∷ []) (only PathSetMode) paths (many dropped (s ∷ buildResult) ∷ []) (only None) ∷
+    op 46 (S* 0 ∷ N 0 ∷ []) (only PathSetMode) paths (many dropped (s ∷ buildResult) ∷ []) none ∷
     op 47 (S ∷ S ∷ []) (only AddPermRoot) empty aString (only Str) ∷
     []
 

@@ -1,7 +1,7 @@
 -- Shapes: what a layout has, field by field, with its version gates. A shape becomes a tree: what is read next, and what follows by the number read.
 use Prim.Native.Nat.{ℕ, zero, suc}
 use mathlib.Core.List.{List, [], _∷_}
-use mathlib.Core.Bool.{Bool, true, false, not}
+use mathlib.Core.Bool.{Bool, true, false, not, _&&_}
 use Rattle.layouts.specs.Primitive.{Version, version, atLeast}
 
 -- what becomes of a number: nothing; it is number i of the record; the same, as a flag; count i; it says whether a group is there
@@ -28,11 +28,12 @@ pub data What : Type 0 where
   maybe : What
   typed : What
 
--- always there; there from version 1.x on; there below it
+-- always there; there from version 1.x on; there below it; there from 1.x on and below 1.y
 pub data Item : Type 0 where
   always : What → Item
   from : ℕ → What → Item
   below : ℕ → What → Item
+  between : (x y : ℕ) → What → Item
 
 -- a run of fields: once; once if a flag is true; as often as a count says
 pub data Group : Type 0 where
@@ -81,11 +82,13 @@ abbrev pub there : Version → Item → Bool
 there v (always w) = true
 there v (from x w) = atLeast v (version 1 x)
 there v (below x w) = not (atLeast v (version 1 x))
+there v (between x y w) = atLeast v (version 1 x) && not (atLeast v (version 1 y))
 
 abbrev pub what : Item → What
 what (always w) = w
 what (from x w) = w
 what (below x w) = w
+what (between x y w) = w
 
 unfoldable pub gated : Bool → What → (Unit {0} → Tree) → Tree
 unfolding field

@@ -16,12 +16,13 @@ use Rattle.layouts.specs.Pieces.{Pieces, run, totalOf}
 use Rattle.layouts.specs.Record.{blank, recordOf}
 use Rattle.layouts.specs.Judge.{judgeOf, entriesOf, payloadOf}
 use Rattle.layouts.specs.Soft.{Softened, keptOf, unlessBad}
-use Rattle.layouts.specs.Operations.{Kinds, Operation, find}
-use Rattle.layouts.specs.Calls.{Answer, kindBy, argumentsTree, replyTree, readOf, readOpArgs, readDaemonResult, skipDaemonResult}
+use Rattle.layouts.specs.Operations.{Kinds}
+use Rattle.layouts.specs.Calls.{Answer, argumentsKinds, replyKinds, argumentsTree, replyTree, readOf, readOpArgs, readDaemonResult, skipDaemonResult}
+use Rattle.layouts.specs.Demands.{meaningOf}
 use Rattle.layouts.proofs.Judge.{judge-read, record-room, entries-length, payload-length}
 use Rattle.layouts.proofs.Placed.{run-placed}
 use Rattle.layouts.proofs.Soft.{soft-run}
-use Rattle.layouts.proofs.Calls.{answer-of, meaningOf, soft-skip-reply, soft-read-reply, soft-rest-reply}
+use Rattle.layouts.proofs.Calls.{answer-of, soft-skip-reply, soft-read-reply, soft-rest-reply}
 use Rattle.walk_judge.specs.declared.Answer as C
 use Rattle.walk_strings.specs.declared.Passed.{Passed}
 use Rattle.walk_strings.specs.declared.Passed.the-variants as S
@@ -75,7 +76,7 @@ module _ (κs : Lfts 3) (a : Dens κs read-op-args-kinds.ps) (r : C.Answer) (x :
   unfolding readOpArgs
   arguments-written f =
       let v = version (a .1 .0) (a .1 .1 .0) in
-      let k = kindBy (find (a .0)) (λ (o : Operation). o .argumentsKind) in
+      let k = argumentsKinds (a .0) in
       let e = answer-fine r argumentsSaid (p .0) f in
       let s = now (a .1 .1 .1 .0) in (
         beyond (2 * r .found .entries) (entriesOf (run (argumentsTree (a .0) v) s 0)) _ _ (counted v k _ _ s (argumentsTree (a .0) v) _ e) (fine-reports r argumentsSaid (p .0) f _ _ _ (p .1 .0)),
@@ -97,7 +98,7 @@ module _ (κs : Lfts 3) (a : Dens κs read-daemon-result-kinds.ps) (r : C.Answer
   unfolding readDaemonResult
   reply-written f =
       let v = version (a .1 .0) (a .1 .1 .0) in
-      let k = kindBy (find (a .0)) (λ (o : Operation). o .replyKind) in
+      let k = replyKinds (a .0) in
       let e = answer-fine r replySaid (p .0) f in
       let s = now (a .1 .1 .1 .0) in (
         beyond (2 * r .found .entries) (entriesOf (run (replyTree (a .0) v) s 0)) _ _ (counted v k _ _ s (replyTree (a .0) v) _ e) (fine-reports r replySaid (p .0) f _ _ _ (p .1 .0)),
@@ -150,7 +151,7 @@ module _ (κs : Lfts 1) (a : Dens κs skip-daemon-result-kinds.ps) (x : AtExit (
 
     module _ (slots : keptOf sentPieces ≤ length (now (a′ .1 .1 .1 .1 .0)) / 2) (room : totalOf sentPieces ≤ length (now (a′ .1 .1 .1 .1 .1 .0))) where
       abbrev means : Result Answer
-      means = unlessBad changed sentPieces (meaningOf sentVersion (kindBy (find sentOp) (λ (o : Operation). o .replyKind)) sentPieces ends)
+      means = unlessBad changed sentPieces (meaningOf sentVersion (replyKinds sentOp) sentPieces ends)
 
       -- reading s' ends there too, with what the bytes of s mean, or is refused by 3 at the first string that is no text
       pub soft-answered : r ≡ answerAs means

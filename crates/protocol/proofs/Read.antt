@@ -10,8 +10,8 @@ use Rattle.layouts.specs.Shape.{Tree, fail, layout}
 use Rattle.layouts.specs.Pieces.{Pieces, run}
 use Rattle.layouts.specs.Record.{blank}
 use Rattle.layouts.specs.Judge.{judgeOf, entriesOf, payloadOf, lentAfter}
-use Rattle.layouts.specs.Operations.{Kinds, Operation, kindOf, find}
-use Rattle.layouts.specs.Calls.{Answer, kindBy, argumentsTree, replyTree, readOf, readOpArgs, readDaemonResult}
+use Rattle.layouts.specs.Operations.{Kinds, kindOf}
+use Rattle.layouts.specs.Calls.{Answer, argumentsTree, replyTree, argumentsKinds, replyKinds, readOf, readOpArgs, readDaemonResult}
 use Rattle.layouts.proofs.Judge.{judge-read, entries-length, payload-length}
 use Rattle.layouts.proofs.Placed.{run-placed}
 use Rattle.layouts.proofs.Calls.{answer-of}
@@ -90,10 +90,7 @@ module _ (v : Version) (k : Kinds) (s : List ℕ) (t : Tree) (x : Shape) (known 
 -- ---- of arguments and of replies
 module _ (op : ℕ) (v : Version) (s words bytes payload : List ℕ) (a : C.Answer) (ws bs ps : List ℕ) where
   module _ (h : ShapeRead v (argumentsOf (rowFor op)) s words bytes payload a ws bs ps) where
-    abbrev argumentsKinds : Kinds
-    argumentsKinds = kindBy (find op) (λ (o : Operation). o .argumentsKind)
-
-    arguments-known : (i c : ℕ) → argumentsOf (rowFor op) ≡ At i c → (argumentsTree op v ≡ layout v (groupsAt i)) × ((b : Bool) → kindOf v b argumentsKinds ≡ kindNumbered v b c)
+    arguments-known : (i c : ℕ) → argumentsOf (rowFor op) ≡ At i c → (argumentsTree op v ≡ layout v (groupsAt i)) × ((b : Bool) → kindOf v b (argumentsKinds op) ≡ kindNumbered v b c)
     arguments-known i c q = let y = arguments-say op (argumentsOf (rowFor op)) i c refl q in (y .tree v, y .kind v)
 
     arguments-unknown : argumentsOf (rowFor op) ≡ Unknown → argumentsTree op v ≡ fail 9 0
@@ -103,19 +100,16 @@ module _ (op : ℕ) (v : Version) (s words bytes payload : List ℕ) (a : C.Answ
         × ((ws ≡ lentAfter (readOpArgs op v s (length words / 2) (length payload)) (entriesOf (run (argumentsTree op v) s 0)) words)
         × (ps ≡ lentAfter (readOpArgs op v s (length words / 2) (length payload)) (payloadOf s (run (argumentsTree op v) s 0)) payload))
     unfolding readOpArgs
-    arguments-words e = in-words v argumentsKinds s (argumentsTree op v) _ arguments-known arguments-unknown words bytes payload a ws bs ps h e
+    arguments-words e = in-words v (argumentsKinds op) s (argumentsTree op v) _ arguments-known arguments-unknown words bytes payload a ws bs ps h e
 
     pub arguments-bytes : words ≡ [] → (a ≡ answerAs (readOpArgs op v s (length bytes / 16) (length payload)))
         × ((bs ≡ lentAfter (readOpArgs op v s (length bytes / 16) (length payload)) (bytesOf (entriesOf (run (argumentsTree op v) s 0))) bytes)
         × (ps ≡ lentAfter (readOpArgs op v s (length bytes / 16) (length payload)) (payloadOf s (run (argumentsTree op v) s 0)) payload))
     unfolding readOpArgs
-    arguments-bytes e = in-bytes v argumentsKinds s (argumentsTree op v) _ arguments-known arguments-unknown words bytes payload a ws bs ps h e
+    arguments-bytes e = in-bytes v (argumentsKinds op) s (argumentsTree op v) _ arguments-known arguments-unknown words bytes payload a ws bs ps h e
 
   module _ (h : ShapeRead v (replyOf (rowFor op)) s words bytes payload a ws bs ps) where
-    abbrev replyKinds : Kinds
-    replyKinds = kindBy (find op) (λ (o : Operation). o .replyKind)
-
-    reply-known : (i c : ℕ) → replyOf (rowFor op) ≡ At i c → (replyTree op v ≡ layout v (groupsAt i)) × ((b : Bool) → kindOf v b replyKinds ≡ kindNumbered v b c)
+    reply-known : (i c : ℕ) → replyOf (rowFor op) ≡ At i c → (replyTree op v ≡ layout v (groupsAt i)) × ((b : Bool) → kindOf v b (replyKinds op) ≡ kindNumbered v b c)
     reply-known i c q = let y = reply-says op (replyOf (rowFor op)) i c refl q in (y .tree v, y .kind v)
 
     reply-unknown : replyOf (rowFor op) ≡ Unknown → replyTree op v ≡ fail 9 0
@@ -125,10 +119,10 @@ module _ (op : ℕ) (v : Version) (s words bytes payload : List ℕ) (a : C.Answ
         × ((ws ≡ lentAfter (readDaemonResult op v s (length words / 2) (length payload)) (entriesOf (run (replyTree op v) s 0)) words)
         × (ps ≡ lentAfter (readDaemonResult op v s (length words / 2) (length payload)) (payloadOf s (run (replyTree op v) s 0)) payload))
     unfolding readDaemonResult
-    reply-words e = in-words v replyKinds s (replyTree op v) _ reply-known reply-unknown words bytes payload a ws bs ps h e
+    reply-words e = in-words v (replyKinds op) s (replyTree op v) _ reply-known reply-unknown words bytes payload a ws bs ps h e
 
     pub reply-bytes : words ≡ [] → (a ≡ answerAs (readDaemonResult op v s (length bytes / 16) (length payload)))
         × ((bs ≡ lentAfter (readDaemonResult op v s (length bytes / 16) (length payload)) (bytesOf (entriesOf (run (replyTree op v) s 0))) bytes)
         × (ps ≡ lentAfter (readDaemonResult op v s (length bytes / 16) (length payload)) (payloadOf s (run (replyTree op v) s 0)) payload))
     unfolding readDaemonResult
-    reply-bytes e = in-bytes v replyKinds s (replyTree op v) _ reply-known reply-unknown words bytes payload a ws bs ps h e
+    reply-bytes e = in-bytes v (replyKinds op) s (replyTree op v) _ reply-known reply-unknown words bytes payload a ws bs ps h e

@@ -8,9 +8,9 @@ use borrow.Author.Tests.{eqb-true}
 use lib.Dec.{eqb}
 use Rattle.layouts.specs.Primitive.{pick, Version, ok, refused}
 use Rattle.layouts.specs.Shape.{layout, fail}
-use Rattle.layouts.specs.Operations.{Kinds, only, byVersion, byFlag, kindOf, skipKind, skipped, Operation, Row, row, unknown, rowIf, operations}
+use Rattle.layouts.specs.Operations.{argumentsNumber, replyNumber, skippedNumber, Kinds, none, only, byVersion, byFlag, byNumber, kindOf, skippedKind, Operation, Row, row, unknown, rowIf, operations}
 use Rattle.layouts.specs.Operations as O
-use Rattle.layouts.specs.Calls.{argumentsTree, skippedTree, replyTree, kindBy, hasFramed, opHasClientFramedData}
+use Rattle.layouts.specs.Calls.{argumentsTree, skippedTree, replyTree, kindBy, argumentsKinds, skippedKinds, replyKinds, hasFramed, opHasClientFramedData}
 use Rattle.table.specs.declared.Row as R
 use Rattle.table.specs.declared.Found.{Found}
 use Rattle.table.specs.declared.Found.the-variants as F
@@ -50,6 +50,7 @@ match-found op = match-in op rows operations rows-say
 -- ---- what that says
 numbered-value : (v : Version) (b : Bool) (k : Kinds) → kindOf v b k ≡ numberedValue v b (numbered k)
 unfolding kindOf
+numbered-value v b none = refl
 numbered-value v b (only k) = refl
 numbered-value v b (byVersion x k l) = rw (numbered-value v b k, numbered-value v b l)
 numbered-value v b (byFlag k l) = rw (numbered-value v b k, numbered-value v b l)
@@ -58,9 +59,9 @@ pub record Says (op : ℕ) (r : R.Row) : Type 0 where
   pub arguments : (v : Version) → argumentsTree op v ≡ layout v (groupsAt (r .arguments))
   pub skips : (v : Version) → skippedTree op v ≡ layout v (groupsAt (r .skipped))
   pub reply : (v : Version) → replyTree op v ≡ layout v (groupsAt (r .reply))
-  pub argumentsKind : (v : Version) (b : Bool) → kindOf v b (kindBy (O.find op) (λ o. o .argumentsKind)) ≡ kindNumbered v b (r .«arguments_kind»)
-  pub skippedKind : (v : Version) (b : Bool) → kindOf v b (kindBy (O.find op) (λ o. skipKind (o .skip))) ≡ kindNumbered v b (r .«skipped_kind»)
-  pub replyKind : (v : Version) (b : Bool) → kindOf v b (kindBy (O.find op) (λ o. o .replyKind)) ≡ kindNumbered v b (r .«reply_kind»)
+  pub argumentsKind : (v : Version) (b : Bool) → kindOf v b (argumentsKinds op) ≡ kindNumbered v b (r .«arguments_kind»)
+  pub skippedKind : (v : Version) (b : Bool) → kindOf v b (skippedKinds op) ≡ kindNumbered v b (r .«skipped_kind»)
+  pub replyKind : (v : Version) (b : Bool) → kindOf v b (replyKinds op) ≡ kindNumbered v b (r .«reply_kind»)
   pub sendsFrames : opHasClientFramedData op ≡ ok (hasFramed op)
 
 pub record Refuses (op : ℕ) : Type 0 where
@@ -80,11 +81,11 @@ module _ (op : ℕ) where
   says-by r (row o) e m =
       record {
         arguments = λ v. rw e (ap (λ (x : Said). layout v (x .arguments)) (sym (m .0)));
-        skips = λ v. rw (e, ← m .1) (ap (λ (x : Said). layout v (x .skips)) (sym (m .0)));
+        skips = λ v. rw e (ap (λ (x : Said). layout v (x .skips)) (sym (m .0)));
         reply = λ v. rw e (ap (λ (x : Said). layout v (x .reply)) (sym (m .0)));
-        argumentsKind = λ v b. kind-by v b o (λ o. o .argumentsKind) _ e (ap (λ (x : Said). x .argumentsKind) (m .0));
-        skippedKind = λ v b. kind-by v b o (λ o. skipKind (o .skip)) _ e (ap (λ (x : Said). x .skippedKind) (m .0));
-        replyKind = λ v b. kind-by v b o (λ o. o .replyKind) _ e (ap (λ (x : Said). x .replyKind) (m .0));
+        argumentsKind = λ v b. kind-by v b o (λ o. byNumber argumentsNumber (o .argumentsKind)) _ e (ap (λ (x : Said). x .argumentsKind) (m .0));
+        skippedKind = λ v b. kind-by v b o (λ o. byNumber skippedNumber (skippedKind (o .skip))) _ e (ap (λ (x : Said). x .skippedKind) (m .0));
+        replyKind = λ v b. kind-by v b o (λ o. byNumber replyNumber (o .replyKind)) _ e (ap (λ (x : Said). x .replyKind) (m .0));
         sendsFrames = rw e;
       }
 

@@ -4,8 +4,8 @@ use mathlib.Core.Path.{_≡_, refl}
 use mathlib.Core.List.{List, [], _∷_, _++_, map}
 use Rattle.layouts.specs.Primitive.{version}
 use Rattle.layouts.specs.Shape.{asCount, kept, set, framed, Group, once, layout}
-use Rattle.layouts.specs.Operations.{Kinds, only, byVersion, byFlag, kindNumber, skipKind, skipped, Operation, aNumber, operations}
-use Rattle.layouts.specs.Calls.{older, field}
+use Rattle.layouts.specs.Operations.{argumentsNumber, replyNumber, skippedNumber, Kinds, none, only, byVersion, byFlag, byNumber, skippedKind, Operation, aNumber, operations}
+use Rattle.layouts.specs.Calls.{field}
 use Rattle.layouts.specs.Stderr.{Next, Read, Write, StartActivity, StopActivity, Result#, goes, messageOf, errorBlock}
 use Rattle.layouts.specs.Handshake.{hello, featureFields, obsoleteFields, infoFields}
 use Rattle.table.specs.declared.Row.{Row}
@@ -15,9 +15,10 @@ use Rattle.table.specs.Packed.{packedTable, rows}
 use Rattle.table.specs.Packed as P
 use Rattle.table.specs.Table.{roleOf, slotOf, whatOf, itemOf, unlessEnd, consItem, items, itemsAt, groupOf, consGroup, groupsIn, groupsAt, numberedOf}
 
--- kinds by their numbers
+-- kinds as the table has them
 abbrev pub numbered : Kinds → Numbered
-numbered (only k) = just (kindNumber k)
+numbered none = just 0
+numbered (only k) = just k
 numbered (byVersion x k l) = K.byVersion x (numbered k) (numbered l)
 numbered (byFlag k l) = K.byFlag (numbered k) (numbered l)
 
@@ -48,11 +49,11 @@ wanted o =
     record {
       code = o .code;
       arguments = once (o .arguments) ∷ [];
-      skips = once (older (o .code) ++ skipped (o .skip) (o .arguments)) ∷ [];
+      skips = once (o .skips) ∷ [];
       reply = o .reply;
-      argumentsKind = numbered (o .argumentsKind);
-      skippedKind = numbered (skipKind (o .skip));
-      replyKind = numbered (o .replyKind);
+      argumentsKind = numbered (byNumber argumentsNumber (o .argumentsKind));
+      skippedKind = numbered (byNumber skippedNumber (skippedKind (o .skip)));
+      replyKind = numbered (byNumber replyNumber (o .replyKind));
     }
 
 pub rows-say : map said rows ≡ map wanted operations

@@ -54,6 +54,8 @@ pub const STRING_SET: u8 = 6;
 
 pub const STRING_MAP: u8 = 7;
 
+pub const BYTES_FREED: u8 = 8;
+
 pub const SUBSTITUTABLE_PATH_INFO: u8 = 9;
 
 pub const NO_SUBSTITUTABLE_PATH_INFO: u8 = 10;

@@ -134,7 +134,7 @@ pub const OPERATIONS: [Row; COUNT] = [
         reply: layout::REPLY_20,
         arguments_kind: kind::COLLECT_GARBAGE,
         skipped_kind: kind::EMPTY_TEXT,
-        reply_kind: kind::COLLECT_GARBAGE,
+        reply_kind: kind::BYTES_FREED,
     },
     // 21. Arguments: S. Reply: flag, if true S S* N N
     Row {

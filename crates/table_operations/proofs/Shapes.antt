@@ -5,8 +5,8 @@ use mathlib.Core.Bool.{Bool}
 use native.Mathlib.Omega.{arith}
 use Rattle.layouts.specs.Primitive.{Version, ok}
 use Rattle.layouts.specs.Shape.{Tree, layout}
-use Rattle.layouts.specs.Operations.{Kinds, kindOf, skipKind, find}
-use Rattle.layouts.specs.Calls.{argumentsTree, skippedTree, replyTree, kindBy, hasFramed, opHasClientFramedData}
+use Rattle.layouts.specs.Operations.{Kinds, kindOf}
+use Rattle.layouts.specs.Calls.{argumentsTree, skippedTree, replyTree, argumentsKinds, skippedKinds, replyKinds, hasFramed, opHasClientFramedData}
 use Rattle.table.specs.declared.Row.{Row}
 use Rattle.table.specs.declared.Found.{Found}
 use Rattle.table.specs.declared.Found.the-variants as F
@@ -43,11 +43,11 @@ module _ (op : ℕ) (x : Shape) where
     pub shape-frames : (i k : ℕ) → x ≡ At i k → opHasClientFramedData op ≡ ok (hasFramed op)
     shape-frames i k q = shape-says (λ (i k : ℕ). opHasClientFramedData op ≡ ok (hasFramed op)) i k (λ r s. s .sendsFrames) q
 
-  pub arguments-say : (i k : ℕ) → x ≡ argumentsOf (rowFor op) → x ≡ At i k → Shaped (argumentsTree op) (kindBy (find op) (λ o. o .argumentsKind)) i k
+  pub arguments-say : (i k : ℕ) → x ≡ argumentsOf (rowFor op) → x ≡ At i k → Shaped (argumentsTree op) (argumentsKinds op) i k
   arguments-say i k e q = shape-says _ _ e (Shaped _ _) i k (λ r s. record { tree = s .arguments; kind = s .argumentsKind }) q
 
-  pub skipped-say : (i k : ℕ) → x ≡ skippedOf (rowFor op) → x ≡ At i k → Shaped (skippedTree op) (kindBy (find op) (λ o. skipKind (o .skip))) i k
+  pub skipped-say : (i k : ℕ) → x ≡ skippedOf (rowFor op) → x ≡ At i k → Shaped (skippedTree op) (skippedKinds op) i k
   skipped-say i k e q = shape-says _ _ e (Shaped _ _) i k (λ r s. record { tree = s .skips; kind = s .skippedKind }) q
 
-  pub reply-says : (i k : ℕ) → x ≡ replyOf (rowFor op) → x ≡ At i k → Shaped (replyTree op) (kindBy (find op) (λ o. o .replyKind)) i k
+  pub reply-says : (i k : ℕ) → x ≡ replyOf (rowFor op) → x ≡ At i k → Shaped (replyTree op) (replyKinds op) i k
   reply-says i k e q = shape-says _ _ e (Shaped _ _) i k (λ r s. record { tree = s .reply; kind = s .replyKind }) q

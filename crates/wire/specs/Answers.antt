@@ -49,7 +49,7 @@ abbrev pub spanned : Spanned → Result Span
 spanned (S.Contents start len next) = ok (span start len (next .at))
 spanned (S.Refused r) = refusedBy r
 
--- read_bytes and read_string answer the one entry (`stringEntry` of `layouts`) with the end
+-- read_bytes and read_string answer start and length of the contents with the end
 abbrev pub readBytes : List ℕ → (at : ℕ) → Result Span
 readBytes s at = onward (skipString s at) (λ e. ok (span (at + 8) (numberAt s at) e))
 

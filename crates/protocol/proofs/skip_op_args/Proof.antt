@@ -5,8 +5,7 @@ use Rattle.protocol.proofs.skip_op_args.Tie as tie
 use denote.Ref.{now}
 use Rattle.walk_read.proofs.Filled.{brief-is}
 use Rattle.layouts.specs.Primitive.{version}
-use Rattle.layouts.specs.Operations.{Operation, find, skipKind}
-use Rattle.layouts.specs.Calls.{kindBy, skipOpArgs}
+use Rattle.layouts.specs.Calls.{skippedKinds, skipOpArgs}
 use Rattle.table_operations.proofs.Shapes.{skipped-say, shape-refuses}
 use Rattle.protocol.proofs.Rows.{unknown-is, arguments-unknown, row-arguments, skipped-nothing}
 
@@ -15,7 +14,7 @@ unfolding skipOpArgs
 returns c =
     let a = c .before .before .before .before .before .before .args in
     let v = version (a .major) (a .minor) in
-    let k = kindBy (find (a .op)) (λ (o : Operation). skipKind (o .skip)) in
+    let k = skippedKinds (a .op) in
     arguments-unknown _ _ _ _ (unknown-is v k 1 0 (now (a .s)) _ (shape-refuses (a .op) _ _ _ (c .before .before .before .before .skipped .ensures) (c .before .before .enum-told .given .1) .skips v)) (c .before .refuse .ensures) (c .refused-arguments .ensures)
 
 returns-2 : tie.Need-returns-2
@@ -24,7 +23,7 @@ returns-2 c =
     let a = c .before .before .before .before .before .before .before .before .before .before .before .args in
     let g = c .before .before .before .before .before .layout in
     let v = version (a .major) (a .minor) in
-    let k = kindBy (find (a .op)) (λ (o : Operation). skipKind (o .skip)) in
+    let k = skippedKinds (a .op) in
     let y = skipped-say (a .op) _ _ _ (c .before .before .before .before .before .before .before .before .before .skipped .ensures) (c .before .before .before .before .before .before .before .f .given .1) in
     row-arguments v k 1 0 (now (a .s)) _ _ _ (g .ensures .0) (g .ensures .1) (y .tree v) _ (y .kind v) _ (skipped-nothing (g .result) _ (now (a .s)) (brief-is (g .result) _ _ (c .before .before .before .before .in-brief .ensures .1) (c .before .before .enum-told2 .given .1)) _ (rw (← c .before .spoken .ensures) (c .kind-of .ensures)))
 
@@ -34,7 +33,7 @@ returns-3 c =
     let a = c .before .before .before .before .before .before .before .before .before .before .args in
     let g = c .before .before .before .before .layout in
     let v = version (a .major) (a .minor) in
-    let k = kindBy (find (a .op)) (λ (o : Operation). skipKind (o .skip)) in
+    let k = skippedKinds (a .op) in
     let y = skipped-say (a .op) _ _ _ (c .before .before .before .before .before .before .before .before .skipped .ensures) (c .before .before .before .before .before .before .f .given .1) in
     row-arguments v k 1 0 (now (a .s)) _ _ _ (g .ensures .0) (g .ensures .1) (y .tree v) _ (y .kind v) _ (c .skip-layout .ensures)
 
@@ -44,7 +43,7 @@ returns-4 c =
     let a = c .before .before .before .before .before .before .before .before .before .before .args in
     let g = c .before .before .before .before .layout in
     let v = version (a .major) (a .minor) in
-    let k = kindBy (find (a .op)) (λ (o : Operation). skipKind (o .skip)) in
+    let k = skippedKinds (a .op) in
     let y = skipped-say (a .op) _ _ _ (c .before .before .before .before .before .before .before .before .skipped .ensures) (c .before .before .before .before .before .before .f .given .1) in
     row-arguments v k 1 0 (now (a .s)) _ _ _ (g .ensures .0) (g .ensures .1) (y .tree v) _ (y .kind v) _ (c .skip-layout2 .ensures)
 
