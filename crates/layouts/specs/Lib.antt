@@ -1,10 +1,9 @@
--- Document 01 in antt, in its order. A reader must believe these files and the ones of `text`, and nothing else.
+-- Document 01 in antt, in its order. docs/PROOFS.md says what must be believed besides, and what of it need not.
 pub mod Primitive
 pub mod Shape
 pub mod Pieces
 pub mod Record
 pub mod Judge
-pub mod Soft
 pub mod Operations
 pub mod Calls
 pub mod Stderr
@@ -12,7 +11,9 @@ pub mod Handshake
 pub mod Writers
 pub mod Grammar
 pub mod Refusals
-pub mod Demands
 pub mod Examples
--- not of document 01: what a refusal of the code means in its words
+-- what the demands speak of
+pub mod Soft
+pub mod Demands
+-- what a refusal of the code means
 pub mod Refusal

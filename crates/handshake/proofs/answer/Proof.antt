@@ -11,4 +11,4 @@ answer-spec =
     (λ c κs. search needs)
     (λ c κs. search needs)
     (λ c κs. search needs)
-    (λ c. replied (c .before .before .before .before .args .sofar) (c .before .before .before .before .args .c) _ _ _ (c .before .versions .ensures) (c .before .before .before .version-in .ensures) (c .before .before .number-in .ensures)))
+    (λ c. replied (c .before .before .before .before .args .sofar) _ _ _ _ (c .before .versions .ensures) (c .before .before .before .version-in .ensures) (c .before .before .number-in .ensures)))

@@ -11,6 +11,6 @@ greet-spec =
     tie.close
     (tie.spec
     (λ c κs. search needs)
-    (λ c. greeted-alone (c .before .before .before .before .args .alone) (version (c .before .before .before .before .args .major) (c .before .before .before .before .args .minor)) (now (c .before .before .before .before .args .client)) (now (c .before .before .before .before .args .daemon)) (c .before .before .before .before .args .slots) (c .judge-daemon-handshake .result) (c .before .if1 .taken) (c .judge-daemon-handshake .ensures .0) (c .judge-daemon-handshake .ensures .1))
+    (λ c. greeted-alone (c .before .before .before .before .args .alone) (version (c .before .before .before .before .args .major) (c .before .before .before .before .args .minor)) _ _ _ (c .judge-daemon-handshake .result) (c .before .if1 .taken) (c .judge-daemon-handshake .ensures .0) (c .judge-daemon-handshake .ensures .1))
     (λ c κs. search needs)
-    (λ c. greeted-both (c .before .before .before .before .args .alone) (version (c .before .before .before .before .args .major) (c .before .before .before .before .args .minor)) (now (c .before .before .before .before .args .client)) (now (c .before .before .before .before .args .daemon)) (c .before .before .before .before .args .slots) (c .judge-handshake .result) (c .before .if1 .left) (c .judge-handshake .ensures)))
+    (λ c. greeted-both (c .before .before .before .before .args .alone) (version (c .before .before .before .before .args .major) (c .before .before .before .before .args .minor)) _ _ _ (c .judge-handshake .result) (c .before .if1 .left) (c .judge-handshake .ensures)))

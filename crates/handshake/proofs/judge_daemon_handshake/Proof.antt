@@ -34,4 +34,4 @@ judge-daemon-handshake-spec =
     (λ c κs. search needs)
     (λ c κs. search needs)
     (λ c κs. search needs)
-    (λ c. daemon-told (now (c .before .before .before .before .before .before .before .before .before .before .before .before .before .args .daemon)) (c .before .before .before .before .before .before .before .before .before .before .before .before .before .args .slots) (version (c .before .before .before .before .before .before .before .before .before .before .before .before .before .args .major) (c .before .before .before .before .before .before .before .before .before .before .before .before .before .args .minor)) (c .before .round3 .result) _ (daemon-left [] (now (c .before .before .before .before .before .before .before .before .before .before .before .before .before .args .daemon)) (c .before .before .before .before .before .before .before .before .before .before .before .before .before .args .slots) (versionIn (c .before .before .before .before .before .before .smaller .result)) (c .before .before .before .before .before .before .before .before .before .start .result) (c .before .before .before .before .before .before .before .before .before .start .ensures) (version (c .before .before .before .before .before .before .before .before .before .before .before .before .before .args .major) (c .before .before .before .before .before .before .before .before .before .before .before .before .before .args .minor)) (c .before .before .before .before .before .before .before .before .round .result) (c .before .before .before .before .before .require-number .result) (c .before .before .before .round2 .result) (c .before .round3 .result) (now (c .before .before .before .before .before .before .before .before .before .before .before .before .before .args .daemon)) (c .before .before .before .before .before .before .before .before .before .before .before .layout .result) (c .before .before .before .before .before .before .before .before .before .before .layout2 .result) (c .before .before .before .before .layout3 .result) (c .before .before .layout4 .result) (c .before .before .before .before .before .before .before .before .before .before .before .layout .ensures) (c .before .before .before .before .before .before .before .before .before .before .layout2 .ensures) (c .before .before .before .before .before .before .before .before .round .ensures) (given-version _ (c .before .before .before .before .before .before .before .version-in .result) (c .before .before .before .before .before .before .smaller .result) _ _ (c .before .before .before .before .before .before .smaller .ensures .0) (given (c .before .before .before .before .before .before .before .before)) (c .before .before .before .before .before .before .before .version-in .ensures)) (c .before .before .before .before .before .require-number .ensures) (c .before .before .before .before .layout3 .ensures) (c .before .before .before .round2 .ensures) (c .before .before .layout4 .ensures) (c .before .round3 .ensures)) (c .before .before .before .before .before .before .before .before .before .before .before .layout .result) (c .before .before .before .before .before .before .before .before .before .before .before .layout .ensures) _ (given (c .before .before .before .before .before .before .before .before)) (c .finish .result) (c .finish .ensures)))
+    (λ c. daemon-told (now (c .before .before .before .before .before .before .before .before .before .before .before .before .before .args .daemon)) (c .before .before .before .before .before .before .before .before .before .before .before .before .before .args .slots) _ _ _ (daemon-left [] _ _ (versionIn _) _ (c .before .before .before .before .before .before .before .before .before .start .ensures) _ _ _ _ _ _ _ _ _ _ (c .before .before .before .before .before .before .before .before .before .before .before .layout .ensures) (c .before .before .before .before .before .before .before .before .before .before .layout2 .ensures) (c .before .before .before .before .before .before .before .before .round .ensures) (given-version _ _ _ _ _ (c .before .before .before .before .before .before .smaller .ensures .0) (given (c .before .before .before .before .before .before .before .before)) (c .before .before .before .before .before .before .before .version-in .ensures)) (c .before .before .before .before .before .require-number .ensures) (c .before .before .before .before .layout3 .ensures) (c .before .before .before .round2 .ensures) (c .before .before .layout4 .ensures) (c .before .round3 .ensures)) _ (c .before .before .before .before .before .before .before .before .before .before .before .layout .ensures) _ (given (c .before .before .before .before .before .before .before .before)) (c .finish .result) (c .finish .ensures)))

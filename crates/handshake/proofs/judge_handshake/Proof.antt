@@ -29,4 +29,4 @@ judge-handshake-spec =
     (λ c κs. search needs)
     (λ c κs. search needs)
     (λ c κs. search needs)
-    (λ c. handshake-told (now (c .before .before .before .before .before .before .before .before .before .before .before .before .before .before .before .before .before .before .before .args .client)) (now (c .before .before .before .before .before .before .before .before .before .before .before .before .before .before .before .before .before .before .before .args .daemon)) (c .before .before .before .before .before .before .before .before .before .before .before .before .before .before .before .before .before .before .before .args .slots) (c .before .before .round3 .result) _ (handshake-left (now (c .before .before .before .before .before .before .before .before .before .before .before .before .before .before .before .before .before .before .before .args .client)) (now (c .before .before .before .before .before .before .before .before .before .before .before .before .before .before .before .before .before .before .before .args .daemon)) (c .before .before .before .before .before .before .before .before .before .before .before .before .before .before .before .before .before .before .before .args .slots) (versionIn (c .before .before .before .before .before .before .before .before .before .before .smaller .result)) (c .before .before .before .before .before .before .before .before .before .before .before .before .before .before .start .result) (c .before .before .before .before .before .before .before .before .before .before .before .before .before .before .start .ensures) (c .before .before .before .before .before .before .before .before .before .before .before .before .before .round .result) (c .before .before .before .before .before .before .before .before .before .require-number .result) (c .before .before .before .before .before .before .before .before .require-number2 .result) (c .before .before .before .before .before .round2 .result) (c .before .before .round3 .result) (c .before .before .before .before .before .before .before .before .before .before .before .before .before .before .before .before .layout .result) (c .before .before .before .before .before .before .before .before .before .before .before .before .before .before .before .layout2 .result) (c .before .before .before .before .before .before .before .layout3 .result) (c .before .before .before .before .before .before .layout4 .result) (c .before .before .before .before .layout5 .result) (c .before .before .before .layout6 .result) (c .before .before .before .before .before .before .before .before .before .before .before .before .before .before .before .before .layout .ensures) (c .before .before .before .before .before .before .before .before .before .before .before .before .before .before .before .layout2 .ensures) (c .before .before .before .before .before .before .before .before .before .before .before .before .before .round .ensures) (both-versions (c .before .before .before .before .before .before .before .before .before .before .before .before .version-in .result) (c .before .before .before .before .before .before .before .before .before .before .before .version-in2 .result) (c .before .before .before .before .before .before .before .before .before .before .smaller .result) _ _ (c .before .before .before .before .before .before .before .before .before .before .smaller .ensures .0) (c .before .before .before .before .before .before .before .before .before .before .before .before .version-in .ensures) (c .before .before .before .before .before .before .before .before .before .before .before .version-in2 .ensures)) (c .before .before .before .before .before .before .before .before .before .require-number .ensures) (c .before .before .before .before .before .before .before .before .require-number2 .ensures) (c .before .before .before .before .before .before .before .layout3 .ensures) (c .before .before .before .before .before .before .layout4 .ensures) (c .before .before .before .before .before .round2 .ensures) (c .before .before .before .before .layout5 .ensures) (c .before .before .before .layout6 .ensures) (c .before .before .round3 .ensures)) (c .before .version-in3 .result) (c .before .version-in3 .ensures) (c .finish .result) (c .finish .ensures)))
+    (λ c. handshake-told (now (c .before .before .before .before .before .before .before .before .before .before .before .before .before .before .before .before .before .before .before .args .client)) (now (c .before .before .before .before .before .before .before .before .before .before .before .before .before .before .before .before .before .before .before .args .daemon)) _ _ _ (handshake-left _ _ _ (versionIn _) _ (c .before .before .before .before .before .before .before .before .before .before .before .before .before .before .start .ensures) _ _ _ _ _ _ _ _ _ _ _ (c .before .before .before .before .before .before .before .before .before .before .before .before .before .before .before .before .layout .ensures) (c .before .before .before .before .before .before .before .before .before .before .before .before .before .before .before .layout2 .ensures) (c .before .before .before .before .before .before .before .before .before .before .before .before .before .round .ensures) (both-versions _ _ _ _ _ (c .before .before .before .before .before .before .before .before .before .before .smaller .ensures .0) (c .before .before .before .before .before .before .before .before .before .before .before .before .version-in .ensures) (c .before .before .before .before .before .before .before .before .before .before .before .version-in2 .ensures)) (c .before .before .before .before .before .before .before .before .before .require-number .ensures) (c .before .before .before .before .before .before .before .before .require-number2 .ensures) (c .before .before .before .before .before .before .before .layout3 .ensures) (c .before .before .before .before .before .before .layout4 .ensures) (c .before .before .before .before .before .round2 .ensures) (c .before .before .before .before .layout5 .ensures) (c .before .before .before .layout6 .ensures) (c .before .before .round3 .ensures)) _ (c .before .version-in3 .ensures) (c .finish .result) (c .finish .ensures)))

@@ -12,8 +12,8 @@ require-number-spec =
     (tie.spec
     (λ c. search needs)
     (λ c. search needs)
-    (λ c. remains false false (c .before .before .args .sofar) _ _ (c .enum-told2 .given .1))
+    (λ c. remains false false _ _ _ (c .enum-told2 .given .1))
     (λ c κs. search needs)
-    (λ c. number-holds (c .before .before .before .before .args .sofar) _ (c .before .number-in .result) (c .before .before .before .before .args .wanted) (c .before .before .before .before .args .i) (c .before .before .enum-told .given .1) (c .before .number-in .ensures) (eq-eqb _ _ (c .if1 .taken)))
+    (λ c. number-holds _ _ _ _ _ (c .before .before .enum-told .given .1) (c .before .number-in .ensures) (eq-eqb _ _ (c .if1 .taken)))
     (λ c κs. search needs)
-    (λ c. number-fails (c .before .before .before .before .before .args .sofar) (c .before .before .before .before .before .args .refusal) (c .before .before .number-in .result) (c .before .before .before .before .before .args .wanted) (c .before .before .before .before .before .args .i) (c .before .before .before .enum-told .given .1) (c .before .before .number-in .ensures) (ne-eqb _ _ (c .before .if1 .left)) _ (c .refused-answer .ensures)))
+    (λ c. number-fails _ _ _ _ _ (c .before .before .before .enum-told .given .1) (c .before .before .number-in .ensures) (ne-eqb _ _ (c .before .if1 .left)) _ (c .refused-answer .ensures)))

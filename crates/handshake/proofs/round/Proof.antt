@@ -14,4 +14,4 @@ round-spec =
     (tie.spec
     (λ c κs. search needs)
     (λ c κs. search needs)
-    (λ c. one-round (said (c .before .before .before .before .args .sofar)) (saidOn true (c .before .turn .result)) (said (c .turn2 .result)) (turnOf false (now (c .before .before .before .before .args .client)) (c .before .before .before .before .args .slots) (layoutTree (c .before .before .before .before .args .asks))) (turnOf true (now (c .before .before .before .before .args .daemon)) (c .before .before .before .before .args .slots) (layoutTree (c .before .before .before .before .args .tells))) (c .before .turn .ensures) (c .turn2 .ensures)))
+    (λ c. one-round (said _) (saidOn true (c .before .turn .result)) (said (c .turn2 .result)) (turnOf false _ _ (layoutTree _)) (turnOf true _ _ (layoutTree _)) (c .before .turn .ensures) (c .turn2 .ensures)))

@@ -12,5 +12,5 @@ find-message-spec =
     (λ c. search needs)
     (λ c κs. search needs)
     (λ c. search needs)
-    (λ c. found-message (c .before .before .before .before .before .args .c) _ (c .before .before .before .before .from-u64 .ensures) _ (c .message-of .result) (c .before .before .f .given .1) (c .message-of .ensures))
-    (λ c. none-message (c .before .before .before .args .c) _ (c .before .before .from-u64 .ensures) (c .enum-told .given .1)))
+    (λ c. found-message _ _ (c .before .before .before .before .from-u64 .ensures) _ (c .message-of .result) (c .before .before .f .given .1) (c .message-of .ensures))
+    (λ c. none-message _ _ (c .before .before .from-u64 .ensures) (c .enum-told .given .1)))

@@ -16,7 +16,7 @@ abbrev μ-loop : tie.MeasureT-loop
 μ-loop s from payload₀ place at₀ filled₀ payload at filled = length s - at
 
 loop-holds : tie.Need-loop-holds Inv-loop μ-loop
-loop-holds c = copying-start (now (c .before .before .args .s)) _ _ _
+loop-holds c = copying-start _ _ _ _
 
 same-length : tie.Need-same-length Inv-loop μ-loop
 same-length c = c .before .before .before .loop .inv .wide
@@ -25,10 +25,10 @@ same-length-2 : tie.Need-same-length-2 Inv-loop μ-loop
 same-length-2 c = c .before .before .before .before .loop .inv .wide
 
 returns : tie.Need-returns Inv-loop μ-loop
-returns c = (copying-wrong (now (c .before .before .before .before .before .before .args .s)) _ _ _ _ _ _ (c .before .before .before .loop .inv) _ (c .before .before .chunk-at .ensures) _ (c .enum-told .given .1), tt)
+returns c = (copying-wrong _ _ _ _ _ _ _ (c .before .before .before .loop .inv) _ (c .before .before .chunk-at .ensures) _ (c .enum-told .given .1), tt)
 
 returns-2 : tie.Need-returns-2 Inv-loop μ-loop
-returns-2 c = (copying-last (now (c .before .before .before .before .before .before .before .args .s)) _ _ _ _ _ _ (c .before .before .before .before .loop .inv) _ (c .before .before .before .chunk-at .ensures) _ (c .before .m .given .1), copying-past (now (c .before .before .before .before .before .before .before .args .s)) _ _ _ _ _ _ (c .before .before .before .before .loop .inv) _ (c .before .before .before .chunk-at .ensures) _ (c .before .m .given .1))
+returns-2 c = (copying-last _ _ _ _ _ _ _ (c .before .before .before .before .loop .inv) _ (c .before .before .before .chunk-at .ensures) _ (c .before .m .given .1), copying-past _ _ _ _ _ _ _ (c .before .before .before .before .loop .inv) _ (c .before .before .before .chunk-at .ensures) _ (c .before .m .given .1))
 
 put-chunk-requires : tie.Need-put-chunk-requires Inv-loop μ-loop
 put-chunk-requires c κs = part-found (now (c .before .before .before .before .before .before .before .before .args .s)) _ _ (c .before .before .before .before .chunk-at .ensures) _ _ _ (c .before .before .m2 .given .1) .2
@@ -37,7 +37,7 @@ loop-less : tie.Need-loop-less Inv-loop μ-loop
 loop-less c = omega (arith, part-found (now (c .before .before .before .before .before .before .before .before .before .before .before .args .s)) _ _ (c .before .before .before .before .before .before .before .chunk-at .ensures) _ _ _ (c .before .before .before .before .before .m2 .given .1))
 
 loop-again : tie.Need-loop-again Inv-loop μ-loop
-loop-again c = copying-on (now (c .before .before .before .before .before .before .before .before .before .before .before .args .s)) _ _ _ _ _ _ (c .before .before .before .before .before .before .before .before .loop .inv) _ (c .before .before .before .before .before .before .before .chunk-at .ensures) _ _ _ (c .before .before .before .before .before .m2 .given .1) _ _ (c .before .before .put-chunk .ensures)
+loop-again c = copying-on _ _ _ _ _ _ _ (c .before .before .before .before .before .before .before .before .loop .inv) _ (c .before .before .before .before .before .before .before .chunk-at .ensures) _ _ _ (c .before .before .before .before .before .m2 .given .1) _ _ (c .before .before .put-chunk .ensures)
 
 pub copy-frames-spec : {M : Type 1} → statement M
 copy-frames-spec =

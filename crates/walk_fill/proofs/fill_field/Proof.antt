@@ -7,16 +7,16 @@ use native.Mathlib.Omega.{arith}
 use Rattle.walk_fill.proofs.Folding.{copied-over, copied-past, copied-from, series-over, series-on, series-from}
 
 returns : tie.Need-returns
-returns c = (copied-over (now (c .before .before .before .before .before .before .before .before .before .before .before .before .args .s)) _ _ _ _ _ _ _ _ (c .before .before .before .before .before .copy-frames .result) _ (c .before .before .before .before .before .before .before .if1 .taken) (c .before .before .before .before .before .copy-frames .ensures .0) _ (c .before .k .given .1), tt)
+returns c = (copied-over (now (c .before .before .before .before .before .before .before .before .before .before .before .before .args .s)) _ _ _ _ _ _ _ _ _ _ (c .before .before .before .before .before .before .before .if1 .taken) (c .before .before .before .before .before .copy-frames .ensures .0) _ (c .before .k .given .1), tt)
 
 returns-2 : tie.Need-returns-2
-returns-2 c = (copied-past (now (c .before .before .before .before .before .before .before .before .before .before .before .before .args .s)) _ _ _ _ _ _ _ _ (c .before .before .before .before .before .copy-frames .result) _ (c .before .before .before .before .before .before .before .if1 .taken) (c .before .before .before .before .before .copy-frames .ensures .0) _ _ (c .before .k2 .given .1), copied-from _ (c .before .before .before .before .before .copy-frames .result) (c .before .before .before .before .before .copy-frames .ensures .1) _ _ (c .before .k2 .given .1))
+returns-2 c = (copied-past (now (c .before .before .before .before .before .before .before .before .before .before .before .before .args .s)) _ _ _ _ _ _ _ _ _ _ (c .before .before .before .before .before .before .before .if1 .taken) (c .before .before .before .before .before .copy-frames .ensures .0) _ _ (c .before .k2 .given .1), copied-from _ (c .before .before .before .before .before .copy-frames .result) (c .before .before .before .before .before .copy-frames .ensures .1) _ _ (c .before .k2 .given .1))
 
 returns-3 : tie.Need-returns-3
-returns-3 c = (series-over (now (c .before .before .before .before .before .before .before .before .before .before .before .before .before .before .before .args .s)) _ _ _ _ _ _ _ _ (c .before .before .before .before .before .before .before .fill-strings .result) _ _ (c .before .before .before .before .before .before .before .fill-strings .ensures .0) _ _ (c .before .r .given .1), tt)
+returns-3 c = (series-over (now (c .before .before .before .before .before .before .before .before .before .before .before .before .before .before .before .args .s)) _ _ _ _ _ _ _ _ _ _ _ (c .before .before .before .before .before .before .before .fill-strings .ensures .0) _ _ (c .before .r .given .1), tt)
 
 returns-4 : tie.Need-returns-4
-returns-4 c = (series-on (now (c .before .before .before .before .before .before .before .before .before .before .before .before .before .before .before .args .s)) _ _ _ _ _ _ _ _ (c .before .before .before .before .before .before .before .fill-strings .result) _ _ (c .before .before .before .before .before .before .before .fill-strings .ensures .0) _ _ _ (c .before .r2 .given .1), series-from _ (c .before .before .before .before .before .before .before .fill-strings .result) (c .before .before .before .before .before .before .before .fill-strings .ensures .1) _ _ _ (c .before .r2 .given .1))
+returns-4 c = (series-on (now (c .before .before .before .before .before .before .before .before .before .before .before .before .before .before .before .args .s)) _ _ _ _ _ _ _ _ _ _ _ (c .before .before .before .before .before .before .before .fill-strings .ensures .0) _ _ _ (c .before .r2 .given .1), series-from _ (c .before .before .before .before .before .before .before .fill-strings .result) (c .before .before .before .before .before .before .before .fill-strings .ensures .1) _ _ _ (c .before .r2 .given .1))
 
 pub fill-field-spec : {M : Type 1} → statement M
 fill-field-spec =

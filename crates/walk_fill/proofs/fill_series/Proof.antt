@@ -16,7 +16,7 @@ abbrev μ-loop : tie.MeasureT-loop
 μ-loop s from pend extra left words₀ word bytes₀ byte at₀ p₀ l₀ w₀ b₀ words bytes at p l w b = length s - at
 
 loop-holds : tie.Need-loop-holds Inv-loop μ-loop
-loop-holds c = along-start (now (c .before .before .before .args .s)) _ _ _ _ _ _ _ _
+loop-holds c = along-start _ _ _ _ _ _ _ _ _
 
 same-length : tie.Need-same-length Inv-loop μ-loop
 same-length c = c .before .before .before .loop .inv .wide
@@ -37,19 +37,19 @@ same-length-6 : tie.Need-same-length-6 Inv-loop μ-loop
 same-length-6 c = c .before .before .before .before .before .before .before .loop .inv .long
 
 returns : tie.Need-returns Inv-loop μ-loop
-returns c = (along-end (now (c .before .before .before .before .before .before .before .args .s)) _ _ _ _ _ _ _ _ _ _ _ _ _ _ _ (c .before .before .before .loop .inv) _ (c .before .before .after-next .ensures) (c .enum-told .given .1), c .before .before .before .loop .inv .on)
+returns c = (along-end _ _ _ _ _ _ _ _ _ _ _ _ _ _ _ _ (c .before .before .before .loop .inv) _ (c .before .before .after-next .ensures) (c .enum-told .given .1), c .before .before .before .loop .inv .on)
 
 returns-2 : tie.Need-returns-2 Inv-loop μ-loop
-returns-2 c = (along-bad (now (c .before .before .before .before .before .before .before .before .before .before .before .args .s)) _ _ _ _ _ _ _ _ _ _ _ _ _ _ _ (c .before .before .before .before .before .before .before .loop .inv) _ (c .before .before .before .before .before .before .after-next .ensures) _ _ (c .before .before .before .before .m .given .1) _ (c .before .before .text-at .ensures) _ (c .enum-told2 .given .1), tt)
+returns-2 c = (along-bad _ _ _ _ _ _ _ _ _ _ _ _ _ _ _ _ (c .before .before .before .before .before .before .before .loop .inv) _ (c .before .before .before .before .before .before .after-next .ensures) _ _ (c .before .before .before .before .m .given .1) _ (c .before .before .text-at .ensures) _ (c .enum-told2 .given .1), tt)
 
 returns-3 : tie.Need-returns-3 Inv-loop μ-loop
-returns-3 c = (along-half (now (c .before .before .before .before .before .before .before .before .before .before .before .args .s)) _ _ _ _ _ _ _ _ _ _ _ _ _ _ _ (c .before .before .before .before .before .before .before .loop .inv) _ (c .before .before .before .before .before .before .after-next .ensures) _ _ (c .before .before .before .before .m .given .1) _ (c .before .before .text-at .ensures) _ _ (c .enum-told3 .given .1), tt)
+returns-3 c = (along-half _ _ _ _ _ _ _ _ _ _ _ _ _ _ _ _ (c .before .before .before .before .before .before .before .loop .inv) _ (c .before .before .before .before .before .before .after-next .ensures) _ _ (c .before .before .before .before .m .given .1) _ (c .before .before .text-at .ensures) _ _ (c .enum-told3 .given .1), tt)
 
 loop-less : tie.Need-loop-less Inv-loop μ-loop
 loop-less c = omega (arith, whole-found (now (c .before .before .before .before .before .before .before .before .before .before .before .before .before .before .before .before .before .before .before .before .args .s)) _ _ (c .before .before .before .before .before .before .before .before .before .before .before .text-at .ensures) _ _ _ (c .before .before .before .before .before .before .before .before .before .t .given .1))
 
 loop-again : tie.Need-loop-again Inv-loop μ-loop
-loop-again c = along-on (now (c .before .before .before .before .before .before .before .before .before .before .before .before .before .before .before .before .before .before .before .before .args .s)) _ _ _ _ _ _ _ _ _ _ _ _ _ _ _ (c .before .before .before .before .before .before .before .before .before .before .before .before .before .before .before .before .loop .inv) _ (c .before .before .before .before .before .before .before .before .before .before .before .before .before .before .before .after-next .ensures) _ _ (c .before .before .before .before .before .before .before .before .before .before .before .before .before .m .given .1) _ (c .before .before .before .before .before .before .before .before .before .before .before .text-at .ensures) _ _ _ (c .before .before .before .before .before .before .before .before .before .t .given .1) _ _ _ _ (c .before .before .before .before .before .before .put-entry .ensures) (c .before .before .put-entry-bytes .ensures)
+loop-again c = along-on _ _ _ _ _ _ _ _ _ _ _ _ _ _ _ _ (c .before .before .before .before .before .before .before .before .before .before .before .before .before .before .before .before .loop .inv) _ (c .before .before .before .before .before .before .before .before .before .before .before .before .before .before .before .after-next .ensures) _ _ (c .before .before .before .before .before .before .before .before .before .before .before .before .before .m .given .1) _ (c .before .before .before .before .before .before .before .before .before .before .before .text-at .ensures) _ _ _ (c .before .before .before .before .before .before .before .before .before .t .given .1) _ _ _ _ (c .before .before .before .before .before .before .put-entry .ensures) (c .before .before .put-entry-bytes .ensures)
 
 pub fill-series-spec : {M : Type 1} → statement M
 fill-series-spec =

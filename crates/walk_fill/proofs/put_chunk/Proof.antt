@@ -6,7 +6,7 @@ use denote.Ref.{now}
 use Rattle.walk_fill.proofs.Pieces.{chunk-put}
 
 returns : tie.Need-returns
-returns c = chunk-put (now (c .before .before .before .before .before .before .before .args .s)) (c .before .before .before .before .before .before .before .args .start) (c .before .before .before .before .before .before .before .args .len) _ _ _ _ (c .before .before .put-bytes .ensures)
+returns c = chunk-put _ _ (c .before .before .before .before .before .before .before .args .len) _ _ _ _ (c .before .before .put-bytes .ensures)
 
 pub put-chunk-spec : {M : Type 1} → statement M
 put-chunk-spec =

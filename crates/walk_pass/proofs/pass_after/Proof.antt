@@ -7,25 +7,25 @@ use native.Mathlib.Omega.{arith}
 use Rattle.walk_pass.proofs.Passing.{took-past, set-after, pairs-after, true-after, type-after, typed-after, false-after, nothing-after}
 
 returns : tie.Need-returns
-returns c = (set-after (now (c .before .before .before .args .s)) (c .before .before .before .args .at) _ _ (c .pass .result) (c .before .if1 .taken) (c .pass .ensures .0), c .pass .ensures .1)
+returns c = (set-after (now (c .before .before .before .args .s)) _ _ _ (c .pass .result) (c .before .if1 .taken) (c .pass .ensures .0), c .pass .ensures .1)
 
 returns-2 : tie.Need-returns-2
-returns-2 c = (pairs-after (now (c .before .before .before .before .args .s)) (c .before .before .before .before .args .at) _ _ (c .pass2 .result) (c .before .if2 .taken) (c .pass2 .ensures .0), c .pass2 .ensures .1)
+returns-2 c = (pairs-after (now (c .before .before .before .before .args .s)) _ _ _ (c .pass2 .result) (c .before .if2 .taken) (c .pass2 .ensures .0), c .pass2 .ensures .1)
 
 returns-3 : tie.Need-returns-3
-returns-3 c = (false-after (now (c .before .before .before .before .before .args .s)) (c .before .before .before .before .before .args .at) _ _ (c .before .if3 .taken) (c .if4 .taken), omega arith)
+returns-3 c = (false-after (now (c .before .before .before .before .before .args .s)) _ _ _ (c .before .if3 .taken) (c .if4 .taken), omega arith)
 
 returns-4 : tie.Need-returns-4
-returns-4 c = (true-after (now (c .before .before .before .before .before .before .args .s)) (c .before .before .before .before .before .before .args .at) _ _ (c .pass-number .result) (c .before .before .if3 .taken) (c .before .if4 .left) (c .pass-number .ensures .0), took-past (now (c .before .before .before .before .before .before .args .s)) (c .before .before .before .before .before .before .args .at) (c .pass-number .result) (c .pass-number .ensures .1))
+returns-4 c = (true-after (now (c .before .before .before .before .before .before .args .s)) _ _ _ (c .pass-number .result) (c .before .before .if3 .taken) (c .before .if4 .left) (c .pass-number .ensures .0), took-past (now (c .before .before .before .before .before .before .args .s)) _ (c .pass-number .result) (c .pass-number .ensures .1))
 
 returns-5 : tie.Need-returns-5
-returns-5 c = (type-after (now (c .before .before .before .before .before .before .before .args .s)) (c .before .before .before .before .before .before .before .args .at) _ _ (c .pass-number2 .result) (c .before .before .if5 .taken) (c .before .if6 .taken) (c .pass-number2 .ensures .0), took-past (now (c .before .before .before .before .before .before .before .args .s)) (c .before .before .before .before .before .before .before .args .at) (c .pass-number2 .result) (c .pass-number2 .ensures .1))
+returns-5 c = (type-after (now (c .before .before .before .before .before .before .before .args .s)) _ _ _ (c .pass-number2 .result) (c .before .before .if5 .taken) (c .before .if6 .taken) (c .pass-number2 .ensures .0), took-past (now (c .before .before .before .before .before .before .before .args .s)) _ (c .pass-number2 .result) (c .pass-number2 .ensures .1))
 
 returns-6 : tie.Need-returns-6
-returns-6 c = (typed-after (now (c .before .before .before .before .before .before .before .args .s)) (c .before .before .before .before .before .before .before .args .at) _ _ (c .pass-text .result) (c .before .before .if5 .taken) (c .before .if6 .left) (c .pass-text .ensures .0), took-past (now (c .before .before .before .before .before .before .before .args .s)) (c .before .before .before .before .before .before .before .args .at) (c .pass-text .result) (c .pass-text .ensures .1))
+returns-6 c = (typed-after (now (c .before .before .before .before .before .before .before .args .s)) _ _ _ (c .pass-text .result) (c .before .before .if5 .taken) (c .before .if6 .left) (c .pass-text .ensures .0), took-past (now (c .before .before .before .before .before .before .before .args .s)) _ (c .pass-text .result) (c .pass-text .ensures .1))
 
 returns-7 : tie.Need-returns-7
-returns-7 c = (nothing-after (now (c .before .before .before .before .before .args .s)) (c .before .before .before .before .before .args .at) _ _ (c .before .before .before .if1 .left) (c .before .before .if2 .left) (c .before .if3 .left) (c .if5 .left), omega arith)
+returns-7 c = (nothing-after (now (c .before .before .before .before .before .args .s)) _ _ _ (c .before .before .before .if1 .left) (c .before .before .if2 .left) (c .before .if3 .left) (c .if5 .left), omega arith)
 
 pub pass-after-spec : {M : Type 1} → statement M
 pass-after-spec =

@@ -16,19 +16,19 @@ abbrev μ-loop : tie.MeasureT-loop
 μ-loop s from at₀ at = length s - at
 
 loop-holds : tie.Need-loop-holds Inv-loop μ-loop
-loop-holds c = framing-start (now (c .before .args .s)) (c .before .args .from)
+loop-holds c = framing-start _ _
 
 returns : tie.Need-returns Inv-loop μ-loop
-returns c = framing-wrong (now (c .before .before .before .before .before .before .args .s)) _ _ (c .before .before .before .before .loop .inv) _ (c .before .before .before .chunk-at .ensures) _ (c .before .m .given .1)
+returns c = framing-wrong _ _ _ (c .before .before .before .before .loop .inv) _ (c .before .before .before .chunk-at .ensures) _ (c .before .m .given .1)
 
 returns-2 : tie.Need-returns-2 Inv-loop μ-loop
-returns-2 c = framing-last (now (c .before .before .before .before .before .before .args .s)) _ _ (c .before .before .before .before .loop .inv) _ (c .before .before .before .chunk-at .ensures) _ (c .before .m2 .given .1)
+returns-2 c = framing-last _ _ _ (c .before .before .before .before .loop .inv) _ (c .before .before .before .chunk-at .ensures) _ (c .before .m2 .given .1)
 
 loop-less : tie.Need-loop-less Inv-loop μ-loop
 loop-less c = omega (arith, part-found (now (c .before .before .before .before .before .before .args .s)) _ _ (c .before .before .before .chunk-at .ensures) _ _ _ (c .before .m3 .given .1))
 
 loop-again : tie.Need-loop-again Inv-loop μ-loop
-loop-again c = framing-on (now (c .before .before .before .before .before .before .args .s)) _ _ (c .before .before .before .before .loop .inv) _ (c .before .before .before .chunk-at .ensures) _ _ _ (c .before .m3 .given .1)
+loop-again c = framing-on _ _ _ (c .before .before .before .before .loop .inv) _ (c .before .before .before .chunk-at .ensures) _ _ _ (c .before .m3 .given .1)
 
 pub pass-frames-spec : {M : Type 1} → statement M
 pass-frames-spec =

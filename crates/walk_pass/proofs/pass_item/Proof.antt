@@ -8,7 +8,7 @@ use Rattle.pieces.proofs.Numbers.{number-known}
 use Rattle.walk_pass.proofs.Moving.{quiet-moves, field-refused, field-moves, times-cut, times-moves}
 
 add-t13 : tie.Need-add-t13
-add-t13 c = let h = number-known (now (c .before .before .before .before .before .before .before .args .s)) (c .before .before .before .before .before .before .before .args .at) _ (c .before .before .before .number-at .ensures) _ (c .before .m .given .1) in omega arith
+add-t13 c = let h = number-known (now (c .before .before .before .before .before .before .before .args .s)) _ _ (c .before .before .before .number-at .ensures) _ (c .before .m .given .1) in omega arith
 
 pub pass-item-spec : {M : Type 1} → statement M
 pass-item-spec =

@@ -9,16 +9,16 @@ use Rattle.pieces.proofs.Nodes.{half-within}
 use Rattle.walk_pass.proofs.Passing.{bad-passes, half-passes, whole-passes, whole-took}
 
 add-refuse : tie.Need-add-refuse
-add-refuse c = let h = half-within (now (c .before .before .before .before .before .args .s)) (c .before .before .before .before .before .args .at) _ (c .before .before .before .text-at .ensures) _ _ (c .before .m2 .given .1) in omega arith
+add-refuse c = let h = half-within (now (c .before .before .before .before .before .args .s)) _ _ (c .before .before .before .text-at .ensures) _ _ (c .before .m2 .given .1) in omega arith
 
 returns : tie.Need-returns
-returns c = (λ b r z. bad-passes (now (c .before .before .before .before .before .args .s)) (c .before .before .before .before .before .args .at) _ (c .before .before .before .text-at .ensures) _ (c .before .m .given .1) b r, bad-plain (now (c .before .before .before .before .before .args .s)) (c .before .before .before .before .before .args .at) _ (c .before .before .before .text-at .ensures) _ (c .before .m .given .1))
+returns c = (λ b r z. bad-passes _ _ _ (c .before .before .before .text-at .ensures) _ (c .before .m .given .1) b r, bad-plain (now (c .before .before .before .before .before .args .s)) _ _ (c .before .before .before .text-at .ensures) _ (c .before .m .given .1))
 
 returns-2 : tie.Need-returns-2
-returns-2 c = (λ b r z. half-passes (now (c .before .before .before .before .before .before .args .s)) (c .before .before .before .before .before .before .args .at) _ (c .before .before .before .before .text-at .ensures) _ _ (c .before .before .m2 .given .1) _ (c .refuse .ensures) b r, plain-is _ _ _ (c .refuse .ensures))
+returns-2 c = (λ b r z. half-passes _ _ _ (c .before .before .before .before .text-at .ensures) _ _ (c .before .before .m2 .given .1) _ (c .refuse .ensures) b r, plain-is _ _ _ (c .refuse .ensures))
 
 returns-3 : tie.Need-returns-3
-returns-3 c = (λ b r z. whole-passes (now (c .before .before .before .before .before .args .s)) (c .before .before .before .before .before .args .at) _ (c .before .before .before .text-at .ensures) _ _ _ (c .before .m3 .given .1) b r z, whole-took (now (c .before .before .before .before .before .args .s)) (c .before .before .before .before .before .args .at) _ (c .before .before .before .text-at .ensures) _ _ _ (c .before .m3 .given .1))
+returns-3 c = (λ b r z. whole-passes _ _ _ (c .before .before .before .text-at .ensures) _ _ _ (c .before .m3 .given .1) b r z, whole-took (now (c .before .before .before .before .before .args .s)) _ _ (c .before .before .before .text-at .ensures) _ _ _ (c .before .m3 .given .1))
 
 pub pass-text-spec : {M : Type 1} → statement M
 pass-text-spec =

@@ -16,6 +16,6 @@ read-brief-spec =
     (λ c. search needs)
     (λ c κs. search brief-is)
     (λ c. search needs)
-    (λ c. (c .read-nothing .ensures _, nothing-there (c .before .before .before .before .before .before .before .args .layout) (c .before .before .before .before .before .before .before .args .code) (brief-is (c .before .before .before .before .before .before .before .args .layout) _ _ (c .before .before .before .before .before .in-brief .ensures .1) (c .before .before .before .enum-told .given .1)) (now (c .before .before .before .before .before .before .before .args .s))))
-    (λ c. (c .read-number .ensures, number-there (c .before .before .before .before .before .before .before .args .layout) (c .before .before .before .before .before .before .before .args .code) (brief-is (c .before .before .before .before .before .before .before .args .layout) _ _ (c .before .before .before .before .before .in-brief .ensures .1) (c .before .before .before .enum-told2 .given .1)) (now (c .before .before .before .before .before .before .before .args .s))))
+    (λ c. (c .read-nothing .ensures _, nothing-there _ (c .before .before .before .before .before .before .before .args .code) (brief-is _ _ _ (c .before .before .before .before .before .in-brief .ensures .1) (c .before .before .before .enum-told .given .1)) _))
+    (λ c. (c .read-number .ensures, number-there _ (c .before .before .before .before .before .before .before .args .code) (brief-is _ _ _ (c .before .before .before .before .before .in-brief .ensures .1) (c .before .before .before .enum-told2 .given .1)) _))
     (λ c. search needs))

@@ -18,4 +18,4 @@ read-number-spec =
     (λ c κs. search needs)
     (λ c κs. search needs)
     (λ c. search short-said)
-    (λ c. number-said _ _ (c .before .before .before .before .before .before .before .before .before .pre) (now (c .before .before .before .before .before .before .before .before .before .args .s)) _ (c .before .before .before .before .before .before .before .number-at .ensures) _ _ (c .before .before .before .before .before .m .given .1) (rw (← c .before .spoken .ensures) (c .kind-of .ensures))))
+    (λ c. number-said _ _ (c .before .before .before .before .before .before .before .before .before .pre) _ _ (c .before .before .before .before .before .before .before .number-at .ensures) _ _ (c .before .before .before .before .before .m .given .1) (rw (← c .before .spoken .ensures) (c .kind-of .ensures))))

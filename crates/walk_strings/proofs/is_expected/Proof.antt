@@ -21,6 +21,6 @@ is-expected-spec =
     (λ c. search needs)
     (λ c κs. search needs)
     (λ c. search needs)
-    (λ c. omega (arith, number-known (now (c .before .before .before .before .before .before .before .before .before .args .s)) (c .before .before .before .before .before .before .before .before .before .args .at) _ (c .before .before .before .before .before .before .number-at .ensures) _ (c .before .before .before .before .n .given .1)))
+    (λ c. omega (arith, number-known (now (c .before .before .before .before .before .before .before .before .before .args .s)) _ _ (c .before .before .before .before .before .before .number-at .ensures) _ (c .before .before .before .before .n .given .1)))
     (λ c. search needs)
     (λ c. let h : c .before .before .before .before .n .given .0 .0 ≡ c .before .before .before .before .before .before .before .before .before .args .expected = omega arith in search expected))

@@ -21,7 +21,7 @@ pass-spec =
     (tie.spec
     Inv-loop
     μ-loop
-    (λ c. passing-start (now (c .before .args .s)) (c .before .args .extra) (c .before .args .from) (c .before .args .pend) (c .before .args .left))
+    (λ c. passing-start (now (c .before .args .s)) _ _ _ _)
     (λ c κs. search needs)
     (λ c. search needs)
     (λ c. passing-end (now (c .before .before .before .before .before .args .s)) _ _ _ _ _ _ _ (c .before .before .before .loop .inv) _ (c .before .before .after-next .ensures) (c .enum-told .given .1))

@@ -9,10 +9,10 @@ pub is-bad-spec : {M : Type 1} → statement M
 is-bad-spec =
     tie.close
     (tie.spec
-    (λ c. any-text (now (c .before .before .args .s)) _ (c .before .before .args .start) (c .before .before .args .len) (c .if1 .taken))
+    (λ c. any-text _ _ _ _ (c .if1 .taken))
     (λ c. search needs)
     (λ c. search needs)
     (λ c. search needs)
     (λ c. search needs)
     (λ c κs. search needs)
-    (λ c. text-judged (now (c .before .before .before .before .args .s)) (c .before .before .before .before .args .role) (c .before .before .before .before .args .start) (c .before .before .before .before .args .len) (c .is-text .result) (c .before .before .if1 .left) (c .is-text .ensures)))
+    (λ c. text-judged _ _ _ _ (c .is-text .result) (c .before .before .if1 .left) (c .is-text .ensures)))

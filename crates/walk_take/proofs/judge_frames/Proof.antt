@@ -21,16 +21,16 @@ judge-frames-spec =
     (tie.spec
     Inv-loop
     μ-loop
-    (λ c. framing-start (now (c .before .args .s)) (c .before .args .room) (c .before .args .from) (c .before .args .n))
+    (λ c. framing-start _ _ _ _)
     (λ c κs. search needs)
     (λ c. search needs)
-    (λ c. (framing-wrong (now (c .before .before .before .before .before .before .args .s)) _ _ _ _ _ (c .before .before .before .before .loop .inv) _ (c .before .before .before .chunk-at .ensures) _ (c .before .m .given .1), tt))
+    (λ c. (framing-wrong _ _ _ _ _ _ (c .before .before .before .before .loop .inv) _ (c .before .before .before .chunk-at .ensures) _ (c .before .m .given .1), tt))
     (λ c. search needs)
-    (λ c. (framing-last (now (c .before .before .before .before .before .before .args .s)) _ _ _ _ _ (c .before .before .before .before .loop .inv) _ (c .before .before .before .chunk-at .ensures) _ (c .before .m2 .given .1), last-took (now (c .before .before .before .before .before .before .args .s)) (c .before .before .before .before .before .before .args .room) _ (c .before .before .before .before .before .before .args .n) _ _ (c .before .before .before .before .loop .inv) _ (c .before .before .before .chunk-at .ensures) _ (c .before .m2 .given .1)))
+    (λ c. (framing-last _ _ _ _ _ _ (c .before .before .before .before .loop .inv) _ (c .before .before .before .chunk-at .ensures) _ (c .before .m2 .given .1), last-took _ _ _ _ _ _ (c .before .before .before .before .loop .inv) _ (c .before .before .before .chunk-at .ensures) _ (c .before .m2 .given .1)))
     (λ c. search needs)
     (λ c κs. search needs)
     (λ c. search needs)
-    (λ c. (framing-stop (now (c .before .before .before .before .before .before .before .before .before .before .args .s)) _ _ _ _ _ (c .before .before .before .before .before .before .before .before .loop .inv) _ (c .before .before .before .before .before .before .before .chunk-at .ensures) _ _ _ (c .before .before .before .before .before .m3 .given .1) _ (c .before .before .before .take-chunk .ensures) _ (c .before .t .given .1), tt))
+    (λ c. (framing-stop _ _ _ _ _ _ (c .before .before .before .before .before .before .before .before .loop .inv) _ (c .before .before .before .before .before .before .before .chunk-at .ensures) _ _ _ (c .before .before .before .before .before .m3 .given .1) _ (c .before .before .before .take-chunk .ensures) _ (c .before .t .given .1), tt))
     (λ c. search needs)
     (λ c. omega (arith, part-found (now (c .before .before .before .before .before .before .before .before .before .before .args .s)) _ _ (c .before .before .before .before .before .before .before .chunk-at .ensures) _ _ _ (c .before .before .before .before .before .m3 .given .1)))
-    (λ c. framing-on (now (c .before .before .before .before .before .before .before .before .before .before .args .s)) _ _ _ _ _ (c .before .before .before .before .before .before .before .before .loop .inv) _ (c .before .before .before .before .before .before .before .chunk-at .ensures) _ _ _ (c .before .before .before .before .before .m3 .given .1) _ (c .before .before .before .take-chunk .ensures) _ (c .before .t2 .given .1)))
+    (λ c. framing-on _ _ _ _ _ _ (c .before .before .before .before .before .before .before .before .loop .inv) _ (c .before .before .before .before .before .before .before .chunk-at .ensures) _ _ _ (c .before .before .before .before .before .m3 .given .1) _ (c .before .before .before .take-chunk .ensures) _ (c .before .t2 .given .1)))

@@ -12,5 +12,5 @@ judge-framed-spec =
     (λ c κs. search needs)
     (λ c. search needs)
     (λ c. search needs)
-    (λ c. framed-refused (now (c .before .before .before .before .before .args .s)) (c .before .before .before .before .before .args .at) _ (c .before .before .before .judge-frames .result) (c .before .before .before .judge-frames .ensures .0) _ (c .before .r .given .1))
-    (λ c. framed-judged (now (c .before .before .before .before .before .args .s)) (c .before .before .before .before .before .args .at) _ (c .before .before .before .judge-frames .result) (c .before .before .before .judge-frames .ensures .0) _ _ (c .before .next .given .1)))
+    (λ c. framed-refused _ _ _ _ (c .before .before .before .judge-frames .ensures .0) _ (c .before .r .given .1))
+    (λ c. framed-judged _ _ _ _ (c .before .before .before .judge-frames .ensures .0) _ _ (c .before .next .given .1)))

@@ -14,6 +14,6 @@ read-framed-spec =
     (λ c. search needs)
     (λ c κs. search needs)
     (λ c κs. search needs)
-    (λ c. read-refused (now (c .before .before .before .before .before .before .args .s)) _ (now (c .before .before .before .before .before .before .args .out)) (c .before .before .before .judge-framed .result) (c .before .before .before .judge-framed .ensures) _ (c .before .r .given .1))
+    (λ c. read-refused _ _ _ _ (c .before .before .before .judge-framed .ensures) _ (c .before .r .given .1))
     (λ c. search needs)
-    (λ c. read-joined (now (c .before .before .before .before .before .before .before .before .before .before .before .args .s)) _ (now (c .before .before .before .before .before .before .before .before .before .before .before .args .out)) (c .before .before .before .before .before .before .before .before .judge-framed .result) (c .before .before .before .before .before .before .before .before .judge-framed .ensures) _ _ (c .before .before .before .before .before .before .value .given .1) _ (c .before .before .before .before .layout .ensures) _ (c .before .before .fill-payload .ensures)))
+    (λ c. read-joined _ _ _ _ (c .before .before .before .before .before .before .before .before .judge-framed .ensures) _ _ (c .before .before .before .before .before .before .value .given .1) _ (c .before .before .before .before .layout .ensures) _ (c .before .before .fill-payload .ensures)))

@@ -11,4 +11,4 @@ read-string-spec =
     tie.close
     (tie.spec
     (λ c κs. search needs)
-    (λ c. c .string-at .ensures ∙ text-is (now (c .before .before .args .s)) (c .before .before .args .self .at)))
+    (λ c. c .string-at .ensures ∙ text-is _ _))

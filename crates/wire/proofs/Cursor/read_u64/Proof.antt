@@ -13,8 +13,8 @@ read-u64-spec =
     (tie.spec
     (λ c κs. search needs)
     (λ c. search needs)
-    (λ c. omega (arith, number-known (now (c .before .before .before .before .before .args .s)) (c .before .before .before .before .before .args .self .at) _ (c .before .before .before .number-at .ensures) _ (c .before .n .given .1)))
+    (λ c. omega (arith, number-known (now (c .before .before .before .before .before .args .s)) _ _ (c .before .before .before .number-at .ensures) _ (c .before .n .given .1)))
     (λ c. search needs)
     (λ c κs. search needs)
-    (λ c. number-read (now (c .before .before .before .before .before .args .s)) (c .before .before .before .before .before .args .self .at) _ (c .before .before .before .number-at .ensures) _ _ (c .before .n .given .1) (omega arith))
+    (λ c. number-read _ _ _ (c .before .before .before .number-at .ensures) _ _ (c .before .n .given .1) (omega arith))
     (λ c. search number-cut))

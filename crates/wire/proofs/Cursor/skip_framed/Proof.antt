@@ -10,4 +10,4 @@ skip-framed-spec =
     tie.close
     (tie.spec
     (λ c κs. search needs)
-    (λ c. framed-skip (now (c .before .before .args .s)) _ (c .judge-framed .result) (c .judge-framed .ensures)))
+    (λ c. framed-skip _ _ (c .judge-framed .result) (c .judge-framed .ensures)))

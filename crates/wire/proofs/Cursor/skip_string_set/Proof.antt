@@ -15,7 +15,7 @@ skip-string-set-spec =
     (λ c. search needs)
     (λ c κs. search needs)
     (λ c. search needs)
-    (λ c. omega (arith, number-known (now (c .before .before .before .before .before .args .s)) (c .before .before .before .before .before .args .self .at) _ (c .before .before .before .number-at .ensures) _ (c .before .count .given .1)))
+    (λ c. omega (arith, number-known (now (c .before .before .before .before .before .args .s)) _ _ (c .before .before .before .number-at .ensures) _ (c .before .count .given .1)))
     (λ c κs. search needs)
     (λ c. search needs)
     (λ c. search needs)
