@@ -17,4 +17,4 @@ read-daemon-result-spec =
     (λ c κs. search needs)
     (λ c. search needs)
     (λ c. search needs)
-    (λ c. reply-words _ (version (c .before .before .before .before .before .before .before .before .before .before .before .before .before .before .before .args .major) (c .before .before .before .before .before .before .before .before .before .before .before .before .before .before .before .args .minor)) (now (c .before .before .before .before .before .before .before .before .before .before .before .before .before .before .before .args .s)) (now (c .before .before .before .before .before .before .before .before .before .before .before .before .before .before .before .args .entries)) [] (now (c .before .before .before .before .before .before .before .before .before .before .before .before .before .before .before .args .payload)) _ _ _ _ (c .answer-of .ensures ∙ c .before .before .before .before .before .before .read-reply .ensures .0, c .before .before .before .before .before .before .read-reply .ensures .1) refl))
+    (λ c. reply-words _ _ _ (now (c .before .before .before .before .before .before .before .before .before .before .before .before .before .before .before .args .entries)) [] (now (c .before .before .before .before .before .before .before .before .before .before .before .before .before .before .before .args .payload)) _ _ _ _ (c .answer-of .ensures ∙ c .before .before .before .before .before .before .read-reply .ensures .0, c .before .before .before .before .before .before .read-reply .ensures .1) refl))

@@ -16,4 +16,4 @@ read-daemon-result-bytes-spec =
     (λ c κs. search needs)
     (λ c. search needs)
     (λ c. search needs)
-    (λ c. reply-bytes _ (version (c .before .before .before .before .before .before .before .before .before .before .before .before .before .before .args .major) (c .before .before .before .before .before .before .before .before .before .before .before .before .before .before .args .minor)) (now (c .before .before .before .before .before .before .before .before .before .before .before .before .before .before .args .s)) [] (now (c .before .before .before .before .before .before .before .before .before .before .before .before .before .before .args .entries)) (now (c .before .before .before .before .before .before .before .before .before .before .before .before .before .before .args .payload)) _ _ _ _ (c .before .before .before .before .before .read-reply .ensures) refl))
+    (λ c. reply-bytes _ _ _ [] (now (c .before .before .before .before .before .before .before .before .before .before .before .before .before .before .args .entries)) (now (c .before .before .before .before .before .before .before .before .before .before .before .before .before .before .args .payload)) _ _ _ _ (c .before .before .before .before .before .read-reply .ensures) refl))

@@ -17,4 +17,4 @@ read-op-args-spec =
     (λ c κs. search needs)
     (λ c. search needs)
     (λ c. search needs)
-    (λ c. arguments-words _ (version (c .before .before .before .before .before .before .before .before .before .before .before .before .before .before .before .args .major) (c .before .before .before .before .before .before .before .before .before .before .before .before .before .before .before .args .minor)) (now (c .before .before .before .before .before .before .before .before .before .before .before .before .before .before .before .args .s)) (now (c .before .before .before .before .before .before .before .before .before .before .before .before .before .before .before .args .entries)) [] (now (c .before .before .before .before .before .before .before .before .before .before .before .before .before .before .before .args .payload)) _ _ _ _ (c .answer-of .ensures ∙ c .before .before .before .before .before .before .read-arguments .ensures .0, c .before .before .before .before .before .before .read-arguments .ensures .1) refl))
+    (λ c. arguments-words _ _ _ (now (c .before .before .before .before .before .before .before .before .before .before .before .before .before .before .before .args .entries)) [] (now (c .before .before .before .before .before .before .before .before .before .before .before .before .before .before .before .args .payload)) _ _ _ _ (c .answer-of .ensures ∙ c .before .before .before .before .before .before .read-arguments .ensures .0, c .before .before .before .before .before .before .read-arguments .ensures .1) refl))

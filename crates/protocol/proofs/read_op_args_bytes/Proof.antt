@@ -16,4 +16,4 @@ read-op-args-bytes-spec =
     (λ c κs. search needs)
     (λ c. search needs)
     (λ c. search needs)
-    (λ c. arguments-bytes _ (version (c .before .before .before .before .before .before .before .before .before .before .before .before .before .before .args .major) (c .before .before .before .before .before .before .before .before .before .before .before .before .before .before .args .minor)) (now (c .before .before .before .before .before .before .before .before .before .before .before .before .before .before .args .s)) [] (now (c .before .before .before .before .before .before .before .before .before .before .before .before .before .before .args .entries)) (now (c .before .before .before .before .before .before .before .before .before .before .before .before .before .before .args .payload)) _ _ _ _ (c .before .before .before .before .before .read-arguments .ensures) refl))
+    (λ c. arguments-bytes _ _ _ [] (now (c .before .before .before .before .before .before .before .before .before .before .before .before .before .before .args .entries)) (now (c .before .before .before .before .before .before .before .before .before .before .before .before .before .before .args .payload)) _ _ _ _ (c .before .before .before .before .before .read-arguments .ensures) refl))

@@ -12,11 +12,11 @@ use Rattle.protocol.proofs.Rows.{unknown-skip, row-skip}
 
 returns : tie.Need-returns
 unfolding skipDaemonResult
-returns c = unknown-skip (version (c .before .before .before .before .before .args .major) (c .before .before .before .before .before .args .minor)) none 0 0 (now (c .before .before .before .before .before .args .s)) _ (shape-refuses (c .before .before .before .before .before .args .op) _ _ _ (c .before .before .before .reply .ensures) (c .before .enum-told .given .1) .reply (version (c .before .before .before .before .before .args .major) (c .before .before .before .before .before .args .minor))) _ (c .refuse .ensures)
+returns c = unknown-skip (version (c .before .before .before .before .before .args .major) (c .before .before .before .before .before .args .minor)) none 0 0 _ _ (shape-refuses _ _ _ _ (c .before .before .before .reply .ensures) (c .before .enum-told .given .1) .reply _) _ (c .refuse .ensures)
 
 returns-2 : tie.Need-returns-2
 unfolding skipDaemonResult
-returns-2 c = c .skip-brief .ensures ∙ row-skip (version (c .before .before .before .before .before .before .before .args .major) (c .before .before .before .before .before .before .before .args .minor)) none 0 0 (now (c .before .before .before .before .before .before .before .args .s)) _ _ _ (c .before .layout .ensures .0) (c .before .layout .ensures .1) (reply-says (c .before .before .before .before .before .before .before .args .op) _ _ _ (c .before .before .before .before .before .reply .ensures) (c .before .before .before .f .given .1) .tree (version (c .before .before .before .before .before .before .before .args .major) (c .before .before .before .before .before .before .before .args .minor)))
+returns-2 c = c .skip-brief .ensures ∙ row-skip _ none 0 0 _ _ _ _ (c .before .layout .ensures .0) (c .before .layout .ensures .1) (reply-says _ _ _ _ (c .before .before .before .before .before .reply .ensures) (c .before .before .before .f .given .1) .tree _)
 
 pub skip-daemon-result-spec : {M : Type 1} → statement M
 skip-daemon-result-spec =

@@ -18,5 +18,5 @@ skip-layout-spec =
     (λ c. search needs)
     (λ c. search needs)
     (λ c. search needs)
-    (λ c. skipped-refused (c .before .before .before .before .before .before .before .before .before .args .layout) _ (now (c .before .before .before .before .before .before .before .before .before .args .s)) (c .before .before .before .before .judge .result) _ _ (c .before .before .before .before .judge .ensures .0) _ _ (c .before .before .a .given .1) (c .refused-arguments .ensures))
-    (λ c. skipped-fine (c .before .before .before .before .before .before .before .before .before .before .args .layout) _ (now (c .before .before .before .before .before .before .before .before .before .before .args .s)) (c .before .before .before .before .before .judge .result) _ _ (c .before .before .before .before .before .judge .ensures .0) _ _ _ _ _ _ (c .before .before .before .a2 .given .1) _ (c .before .before .before .before .before .judge .ensures .1) _ (rw (← c .before .spoken .ensures) (c .kind-of .ensures))))
+    (λ c. skipped-refused _ _ _ _ _ _ (c .before .before .before .before .judge .ensures .0) _ _ (c .before .before .a .given .1) (c .refused-arguments .ensures))
+    (λ c. skipped-fine _ _ _ _ _ _ (c .before .before .before .before .before .judge .ensures .0) _ _ _ _ _ _ (c .before .before .before .a2 .given .1) _ (c .before .before .before .before .before .judge .ensures .1) _ (rw (← c .before .spoken .ensures) (c .kind-of .ensures))))
