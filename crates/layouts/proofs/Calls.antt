@@ -24,7 +24,7 @@ or-answered : {A B : Type 0} (b : Bool) (start : ℕ) (o : Result A) (k : A → 
 or-answered true start o k o' e = refl
 or-answered false start o k o' e = e
 
-unless-answered : {A B : Type 0} (s : List ℕ) (p : Pieces) (x : A) (k : A → Result B) → onward (unlessBad s p (ok x)) k ≡ unlessBad s p (k x)
+pub unless-answered : {A B : Type 0} (s : List ℕ) (p : Pieces) (x : A) (k : A → Result B) → onward (unlessBad s p (ok x)) k ≡ unlessBad s p (k x)
 unfolding unlessBad
 unless-answered s (number i place n p) x k = unless-answered s p x k
 unless-answered s (text m start len p) x k = or-answered (notText s m start len) start (unlessBad s p (ok x)) k (unlessBad s p (k x)) (unless-answered s p x k)

@@ -179,3 +179,16 @@ payload-length s (on-half lo start len a b) = refl
 payload-length s (on-chunk lo start len a b h) = simp (length-append, length-take, length-drop, payload-length s h) (omega arith)
 payload-length s (on-end lo x a b) = refl
 payload-length s (on-fault lo x a) = refl
+
+-- an answer reports as many entries and as many bytes of payload as are kept
+module _ (s : List ℕ) (slots room : ℕ) (sofar : Record) (p : Pieces) (x : Ended) (e : judgeOf s slots room sofar p ≡ ok x) where
+  pub entries-counted : sofar .entries ≡ 0 → length (entriesOf p) ≡ 2 * x .found .entries
+  entries-counted z =
+      let l = entries-length p in
+      let q : x .found .entries ≡ sofar .entries + keptOf p = ap (λ (r : Record). r .entries) (judge-read s slots room sofar p x e .holds) ∙ record-room sofar p .0 in
+      omega arith
+
+  pub payload-counted : sofar .payload ≡ 0 → length (payloadOf s p) ≡ totalOf p → length (payloadOf s p) ≡ x .found .payload
+  payload-counted z l =
+      let q : x .found .payload ≡ sofar .payload + totalOf p = ap (λ (r : Record). r .payload) (judge-read s slots room sofar p x e .holds) ∙ record-room sofar p .1 in
+      omega arith

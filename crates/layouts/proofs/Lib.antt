@@ -1,5 +1,5 @@
--- Theorems about the definitions of `specs/`. `Exact`, `RoundTrip`, `Theorems`, `Calls`, `Arguments`, `Talk`, `Refusals` and `Examples` hold what docs/PROOFS.md cites; the
--- others serve them and the crates above.
+-- Theorems about the definitions of `specs/`. `Exact`, `Refusals`, `RoundTrip`, `Soft`, `Theorems`, `Calls`, `Arguments`, `Stderr`, `Talk` and `Examples` hold what
+-- docs/PROOFS.md cites; the others serve them and the crates above.
 pub mod Little
 pub mod Views
 pub mod Steps
@@ -12,7 +12,9 @@ pub mod Theorems
 pub mod Calls
 pub mod Lowers
 pub mod Arguments
+pub mod Writers
 pub mod RoundTrip
+pub mod Success
 pub mod Stderr
 pub mod Talk
 pub mod Faults

@@ -4,7 +4,7 @@ use mathlib.Core.Path.{_≡_, refl, sym, _∙_, ap}
 use mathlib.Core.List.{List, [], _∷_, _++_, append-assoc, append-nil}
 use mathlib.Core.Bool.{Bool, true, false}
 use lib.ListN.{length, getD, take, drop, replicate, length-append, length-drop, length-replicate, getD-replicate, List·getD-append}
-use lib.Seq.{getD-drop, take-append-seam, take-at, ext-getD}
+use lib.Seq.{getD-drop, take-append-seam, ext-getD}
 use borrow.Author.Tests.{not-false, le-leb, lt-leb, lt-ltb}
 use native.Mathlib.Omega.{arith}
 use native.Mathlib.Nat.{add-zero}
@@ -12,26 +12,20 @@ use Rattle.text.specs.Prefix.{isText}
 use Rattle.text.specs.Rfc3629.{Text}
 use Rattle.text.proofs.Meaning.{is-text, text-is}
 use Rattle.layouts.specs.declared.Record.{Record}
-use Rattle.layouts.specs.Primitive.{pick, numberAt, numberBytes, limit, padOf, badText, Result, ok, refused, onward}
-use Rattle.layouts.specs.Shape.{kept, asCount, str, set, units, layout, stop}
-use Rattle.layouts.specs.Pieces.{Pieces, number, text, half, chunk, end, fault, run}
+use Rattle.layouts.specs.Primitive.{pick, numberAt, numberBytes, limit, padOf, badText, Result, ok, refused}
+use Rattle.layouts.specs.Shape.{Role, passed, kept, asCount, str, set, units, layout, Tree, stop}
+use Rattle.layouts.specs.Pieces.{Pieces, number, text, end, run, skipOf}
 use Rattle.layouts.specs.Record.{blank, withCount, withEntries, noted, entered}
 use Rattle.layouts.specs.Judge.{Ended, notText, textTaken, judgeOf, entriesOf}
 use Rattle.layouts.specs.Grammar.{Says, says-number, says-text, says-end}
-use Rattle.layouts.specs.Calls.{field, readString, readStringSet}
-use Rattle.layouts.specs.Writers.{viewOf, stringBytes, stringsBytes, setBytes, textAt, textsFrom, textsOf, writing, writeStringSet}
-use Rattle.layouts.specs.Demands.{Bytes, Strings, Zeros, ZeroPadded}
-use Rattle.layouts.proofs.Little.{length-number}
+use Rattle.layouts.specs.Calls.{field, skipString, readString, readStringSet}
+use Rattle.layouts.specs.Writers.{viewOf, stringBytes, stringsBytes, setBytes, textAt, textsFrom, textsOf}
+use Rattle.layouts.specs.Demands.{Bytes, Strings, Zeros, ZeroPadded, setPieces, contentsAt, StringBack, SetBack}
+use Rattle.layouts.proofs.Little.{length-number, number-small}
 use Rattle.layouts.proofs.Placed.{never-both}
-use Rattle.layouts.proofs.Judge.{judge-read}
-use Rattle.layouts.proofs.Exact.{past, head-number, complete, read-grammar}
-
--- what the readers of a string and of a set judge
-abbrev pub stringPieces : List ℕ → Pieces
-stringPieces s = run (field (str kept)) s 0
-
-abbrev pub setPieces : List ℕ → Pieces
-setPieces s = run (field (set kept (asCount 0))) s 0
+use Rattle.layouts.proofs.Judge.{judge-read, entries-length}
+use Rattle.layouts.proofs.Writers.{onward-ok}
+use Rattle.layouts.proofs.Exact.{past, head-number, complete, Begins, sound}
 
 -- a string at a place, with any padding
 record StringAt (s : List ℕ) (at : ℕ) (c pad l : List ℕ) : Type 0 where
@@ -65,10 +59,10 @@ says-strings (c ∷ cs) at g =
     (says-text kept at (λ u. units kept 0 (length cs) (λ u. stop)) c (replicate (padOf n) 0) (stringsBytes cs) (piecesOf (at + 8 + n + padOf n) cs) (g .1)
     (length-replicate (padOf n) 0) (says-strings cs (at + 8 + n + padOf n) (g .2)))
 
-entries-length : (cs : List (List ℕ)) (at : ℕ) → length (entriesOf (piecesOf at cs)) ≡ 2 * length cs
+entries-twice : (cs : List (List ℕ)) (at : ℕ) → length (entriesOf (piecesOf at cs)) ≡ 2 * length cs
 unfolding piecesOf entriesOf
-entries-length [] at = refl
-entries-length (c ∷ cs) at = let z = entries-length cs (at + 8 + length c + padOf (length c)) in omega arith
+entries-twice [] at = refl
+entries-twice (c ∷ cs) at = let z = entries-twice cs (at + 8 + length c + padOf (length c)) in omega arith
 
 -- string number i, by the entries from there on
 view-at : (s es : List ℕ) (i start len : ℕ) (rest : List ℕ) → drop (2 * i) es ≡ start ∷ len ∷ rest → start + len ≤ length s → viewOf s es i ≡ ok (take len (drop start s))
@@ -95,74 +89,113 @@ module _ (s u : List ℕ) where
       simp (w .contents, text-is c (g .0), lt-leb slots (r .entries) (omega arith))
       (judge-strings cs (at + 8 + length c + padOf (length c)) slots room n last (withEntries r (r .entries + 1)) (w .after) (g .2) (omega arith) b (omega arith))
 
-  texts-strings : (cs : List (List ℕ)) (at i : ℕ) (es : List ℕ) → drop at s ≡ stringsBytes cs ++ u → Strings cs → drop (2 * i) es ≡ entriesOf (piecesOf at cs)
-      → textsFrom s es (length cs) i ≡ ok cs
+  texts-strings : (cs : List (List ℕ)) (at i : ℕ) (es spare : List ℕ) → drop at s ≡ stringsBytes cs ++ u → Strings cs
+      → drop (2 * i) es ≡ entriesOf (piecesOf at cs) ++ spare → textsFrom s es (length cs) i ≡ ok cs
   unfolding piecesOf entriesOf textsFrom textAt
-  texts-strings [] at i es e g d = refl
-  texts-strings (c ∷ cs) at i es e g d =
+  texts-strings [] at i es spare e g d = refl
+  texts-strings (c ∷ cs) at i es spare e g d =
       let n = length c in
       let w = first-at c cs at e in
-      let es' = entriesOf (piecesOf (at + 8 + n + padOf n) cs) in
+      let es' = entriesOf (piecesOf (at + 8 + n + padOf n) cs) ++ spare in
       let k : 2 * (i + 1) ≡ 2 * i + 2 = omega arith in
       let d' : drop (2 * (i + 1)) es ≡ es' = rw k (past es (2 * i) 2 ((at + 8) ∷ n ∷ []) es' d refl) in
-      simp (view-at s es i (at + 8) n es' d (w .fits), w .contents, text-is c (g .0), texts-strings cs (at + 8 + n + padOf n) (i + 1) es (w .after) (g .2) d')
+      simp (view-at s es i (at + 8) n es' d (w .fits), w .contents, text-is c (g .0), texts-strings cs (at + 8 + n + padOf n) (i + 1) es spare (w .after) (g .2) d')
 
--- demand 2, there: a string
-module _ (c rest : List ℕ) (textual : Text c) (small : length c ≤ limit) where
-  alone : drop 0 (stringBytes c ++ rest) ≡ stringsBytes (c ∷ []) ++ rest
+  -- starts and lengths lie in the stream
+  entries-low : (cs : List (List ℕ)) (at i : ℕ) → drop at s ≡ stringsBytes cs ++ u → getD (entriesOf (piecesOf at cs)) i 0 ≤ length s
+  unfolding piecesOf entriesOf
+  entries-low [] at i e = omega arith
+  entries-low (c ∷ cs) at zero e = let w = first-at c cs at e .fits in omega arith
+  entries-low (c ∷ cs) at (suc zero) e = let w = first-at c cs at e .fits in omega arith
+  entries-low (c ∷ cs) at (suc (suc i)) e = entries-low cs (at + 8 + length c + padOf (length c)) i (first-at c cs at e .after)
+
+-- ---- demand 2, there: wherever the bytes stand in a stream. A string
+module _ (s : List ℕ) (at : ℕ) (c rest : List ℕ) (e : drop at s ≡ stringBytes c ++ rest) (small : length c ≤ limit) where
+  alone : drop at s ≡ stringsBytes (c ∷ []) ++ rest
   unfolding stringsBytes
-  alone = rw append-nil
+  alone = rw append-nil e
 
-  string-pieces : stringPieces (stringBytes c ++ rest) ≡ text kept 8 (length c) (end (8 + length c + padOf (length c)))
-  unfolding layout units piecesOf
-  string-pieces = complete (says-strings (c ∷ []) 0 (textual, small, tt)) (stringBytes c ++ rest) rest alone
+  here : StringAt s at c (replicate (padOf (length c)) 0) rest
+  unfolding stringsBytes
+  here = first-at s rest c [] at alone
 
-  pub string-there : readString (stringBytes c ++ rest) 0 ≡ ok (record { found = withEntries blank 1; ends = length (stringBytes c) })
-  unfolding piecesOf stringsBytes
-  string-there =
-      rw string-pieces
-      (judge-strings (stringBytes c ++ rest) rest (c ∷ []) 0 1 0 1 (length (stringBytes c)) blank alone (textual, small, tt) refl (omega arith) (rw append-nil (omega arith)))
+  string-ends : at + 8 + length c + padOf (length c) ≡ at + length (stringBytes c)
+  unfolding stringBytes
+  string-ends = simp (length-append, length-number, length-replicate) (omega arith)
 
-  pub string-entry : entriesOf (stringPieces (stringBytes c ++ rest)) ≡ 8 ∷ length c ∷ []
-  unfolding entriesOf
-  string-entry = rw string-pieces
+  string-pieces : (m : Role) → run (field (str m)) s at ≡ text m (at + 8) (length c) (end (at + length (stringBytes c)))
+  unfolding layout stringBytes
+  string-pieces m =
+      let n = length c in
+      complete (says-text m at (λ u. stop) c (replicate (padOf n) 0) [] (end (at + 8 + n + padOf n)) small (length-replicate (padOf n) 0) (says-end (at + 8 + n + padOf n)))
+      s rest (rw append-nil e)
+      ∙ ap (λ (o : ℕ). text m (at + 8) n (end o)) string-ends
 
-  pub string-shown : viewOf (stringBytes c ++ rest) (8 ∷ length c ∷ []) 0 ≡ ok c
-  string-shown =
-      let w = first-at (stringBytes c ++ rest) rest c [] 0 alone in
-      view-at (stringBytes c ++ rest) (8 ∷ length c ∷ []) 0 8 (length c) [] refl (w .fits) ∙ ap ok (w .contents)
+  -- the length that is read is that of the contents, and these are read
+  pub string-number : numberAt s at ≡ length c
+  unfolding stringBytes
+  string-number = sym (head-number s at (length c) _ (simp append-assoc at e) (omega arith))
+
+  pub string-shown : take (length c) (drop (at + 8) s) ≡ c
+  string-shown = here .contents
+
+  string-judged : readString s at ≡ judgeOf s 1 0 blank (text kept (at + 8) (length c) (end (at + length (stringBytes c))))
+  string-judged = ap (judgeOf s 1 0 blank) (string-pieces kept)
+
+  -- any bytes are passed to their end; text reads to its end
+  pub string-skipped : skipString s at ≡ ok (at + length (stringBytes c))
+  unfolding skipOf
+  string-skipped = rw (string-pieces passed)
+
+  pub string-there : Text c → readString s at ≡ ok (record { found = withEntries blank 1; ends = at + length (stringBytes c) })
+  unfolding judgeOf textTaken notText entered
+  string-there t = string-judged ∙ simp (string-shown, text-is c t)
 
 -- a set
-module _ (cs : List (List ℕ)) (rest : List ℕ) (g : Strings cs) (h : length cs < 18446744073709551616) where
-  after-count : drop 8 (setBytes cs ++ rest) ≡ stringsBytes cs ++ rest
+module _ (s : List ℕ) (at : ℕ) (cs : List (List ℕ)) (rest : List ℕ) (e : drop at s ≡ setBytes cs ++ rest) (g : Strings cs) (h : length cs < 18446744073709551616) where
+  counted : drop at s ≡ numberBytes (length cs) ++ (stringsBytes cs ++ rest)
   unfolding setBytes
-  after-count = past (setBytes cs ++ rest) 0 8 (numberBytes (length cs)) (stringsBytes cs ++ rest) (append-assoc (numberBytes (length cs)) (stringsBytes cs) rest) (length-number (length cs))
+  counted = simp append-assoc at e
 
-  set-pieces : setPieces (setBytes cs ++ rest) ≡ number (asCount 0) 0 (length cs) (piecesOf 8 cs)
+  after-count : drop (at + 8) s ≡ stringsBytes cs ++ rest
+  after-count = past s at 8 (numberBytes (length cs)) (stringsBytes cs ++ rest) counted (length-number (length cs))
+
+  set-pieces : setPieces s at ≡ number (asCount 0) at (length cs) (piecesOf (at + 8) cs)
   unfolding layout setBytes
   set-pieces =
-      complete (says-number (asCount 0) (length cs) 0 (λ n. units kept 0 n (λ u. stop)) (stringsBytes cs) (piecesOf 8 cs) h (says-strings cs 8 g)) (setBytes cs ++ rest) rest refl
+      complete (says-number (asCount 0) (length cs) at (λ n. units kept 0 n (λ u. stop)) (stringsBytes cs) (piecesOf (at + 8) cs) h (says-strings cs (at + 8) g)) s rest e
+
+  -- the number of strings is read, and with a slot for each the set reads to its end
+  pub set-number : numberAt s at ≡ length cs
+  set-number = sym (head-number s at (length cs) (stringsBytes cs ++ rest) counted h)
 
   pub set-there : (slots : ℕ) → length cs ≤ slots
-      → readStringSet (setBytes cs ++ rest) 0 slots ≡ ok (record { found = withEntries (withCount blank 0 (length cs)) (length cs); ends = length (setBytes cs) })
+      → readStringSet s at slots ≡ ok (record { found = withEntries (withCount blank 0 (length cs)) (length cs); ends = at + length (setBytes cs) })
   unfolding judgeOf noted setBytes
   set-there slots l =
       rw set-pieces
-      (judge-strings (setBytes cs ++ rest) rest cs 8 slots 0 (length cs) (length (setBytes cs)) (withCount blank 0 (length cs)) after-count g (omega arith) l
-      (simp (length-append, length-number)))
+      (judge-strings s rest cs (at + 8) slots 0 (length cs) (at + length (setBytes cs)) (withCount blank 0 (length cs)) after-count g (omega arith) l
+      (simp (length-append, length-number) (omega arith)))
 
-  pub set-shown : textsOf (setBytes cs ++ rest) (entriesOf (setPieces (setBytes cs ++ rest))) (length cs) ≡ ok cs
+  -- its entries, of which each number lies in the stream
+  pub set-entries : length (entriesOf (setPieces s at)) ≡ 2 * length cs
+  unfolding entriesOf
+  set-entries = rw set-pieces (entries-twice cs (at + 8))
+
+  pub set-low : (i : ℕ) → getD (entriesOf (setPieces s at)) i 0 ≤ length s
+  unfolding entriesOf
+  set-low i = rw set-pieces (entries-low s rest cs (at + 8) i after-count)
+
+  -- and by its entries it has these strings, whatever follows the entries
+  pub set-shown : (spare : List ℕ) → textsOf s (entriesOf (setPieces s at) ++ spare) (length cs) ≡ ok cs
   unfolding textsOf entriesOf
-  set-shown =
-      let es = entriesOf (piecesOf 8 cs) in
-      let z = entries-length cs 8 in
-      rw (set-pieces, le-leb (length cs) (length es / 2) (omega arith)) (texts-strings (setBytes cs ++ rest) rest cs 8 0 es after-count g refl)
+  set-shown spare =
+      let es = entriesOf (piecesOf (at + 8) cs) in
+      let z = entries-twice cs (at + 8) in
+      let l : length cs ≤ length (es ++ spare) / 2 = simp length-append (omega arith) in
+      rw (set-pieces, le-leb (length cs) (length (es ++ spare) / 2) l) (texts-strings s rest cs (at + 8) 0 (es ++ spare) spare after-count g refl)
 
-  pub set-rewritten : (lent : List ℕ) → writeStringSet (setBytes cs ++ rest) (entriesOf (setPieces (setBytes cs ++ rest))) (length cs) lent ≡ writing (setBytes cs) lent
-  unfolding writeStringSet
-  set-rewritten lent = rw set-shown
-
--- demand 2, back
+-- ---- demand 2, back
 zeros : (s : List ℕ) (at n : ℕ) (pad l : List ℕ) → drop at s ≡ pad ++ l → length pad ≡ n → Zeros s at (at + n) → replicate n 0 ≡ pad
 zeros s at n pad l e g z =
     ext-getD 0 (replicate n 0) pad (length-replicate n 0 ∙ sym g)
@@ -170,10 +203,6 @@ zeros s at n pad l e g z =
     let k : i < n = rw length-replicate at h in
     getD-replicate n i 0 0 k ∙ sym (z (at + i) (omega arith) (omega arith)) ∙ sym (getD-drop at s i 0) ∙ ap (λ (o : List ℕ). getD o i 0) e
     ∙ List·getD-append pad l 0 i (omega arith))
-
-onward-ok : {A B : Type 0} (o : Result A) (k : A → Result B) (x : B) → onward o k ≡ ok x → (a : A) × (o ≡ ok a) × (k a ≡ ok x)
-onward-ok (ok a) k x h = (a, refl, h)
-onward-ok (refused which place stream) k x h = absurd (never-both h)
 
 not-refused : {A : Type 0} (b : Bool) (which place : ℕ) (o : Result A) (x : A) → pick b (refused which place 0) o ≡ ok x → (b ≡ false) × (o ≡ ok x)
 not-refused true which place o x h = absurd (never-both h)
@@ -198,42 +227,69 @@ strings-back s u slots room (suc n) at b p r x (says-text m at' k c pad b' p' l 
 ended : {at : ℕ} {b : List ℕ} {p : Pieces} → Says stop at b p → b ≡ []
 ended (says-end at) = refl
 
-string-again : (s u b : List ℕ) (p : Pieces) → Says (field (str kept)) 0 b p → s ≡ b ++ u → Zeros s (8 + numberAt s 0) (length b)
-    → stringBytes (take (numberAt s 0) (drop 8 s)) ≡ b
-unfolding layout stringBytes
-string-again s u b p (says-text m at k c pad b' p' l g y) e z =
-    let e' : s ≡ numberBytes (length c) ++ (c ++ (pad ++ u)) = simp (append-assoc, ended y) at e in
-    let n = head-number s 0 (length c) (c ++ (pad ++ u)) e' (omega arith) in
-    let w = string-at s 0 c pad u e' g in
-    let size : length (numberBytes (length c) ++ (c ++ (pad ++ b'))) ≡ 8 + length c + padOf (length c) = simp (length-append, length-number) (omega (arith, ap length (ended y))) in
-    let d = zeros s (8 + length c) (padOf (length c)) pad u (w .padding) g (λ i f t. z i (omega arith) (omega arith)) in
-    simp (← n, w .contents, d, ended y, append-nil)
+module _ (s : List ℕ) (at : ℕ) where
+  string-again : (m : Role) (b u : List ℕ) (p : Pieces) → Says (field (str m)) at b p → drop at s ≡ b ++ u → Zeros s (at + 8 + numberAt s at) (at + length b)
+      → (length (contentsAt s at) ≤ limit) × (stringBytes (contentsAt s at) ≡ b)
+  unfolding layout stringBytes
+  string-again m b u p (says-text m' at' k c pad b' p' l g y) e z =
+      let f : b' ≡ [] = ended y in
+      let e' : drop at s ≡ numberBytes (length c) ++ (c ++ (pad ++ u)) = simp (append-assoc, f) at e in
+      let n = head-number s at (length c) (c ++ (pad ++ u)) e' (omega arith) in
+      let w = string-at s at c pad u e' g in
+      let size : at + length (numberBytes (length c) ++ (c ++ (pad ++ b'))) ≡ at + 8 + length c + padOf (length c) = simp (length-append, length-number, f) (omega arith) in
+      let d = zeros s (at + 8 + length c) (padOf (length c)) pad u (w .padding) g (λ i f t. z i (omega arith) (omega arith)) in
+      simp (← n, w .contents, d, f, append-nil) (l, refl)
 
-shown-in : (s u : List ℕ) (cs : List (List ℕ)) → Strings cs → length cs < 18446744073709551616 → s ≡ setBytes cs ++ u → length cs ≡ numberAt s 0
-    → textsOf s (entriesOf (setPieces s)) (numberAt s 0) ≡ ok cs
-shown-in s u cs g h e n = rw (← n, e) (set-shown cs u g h)
+  set-again : (slots : ℕ) (b u : List ℕ) (p : Pieces) (r : Record) (x : Ended) → Says (field (set kept (asCount 0))) at b p → drop at s ≡ b ++ u → ZeroPadded s p
+      → judgeOf s slots 0 r p ≡ ok x → (cs : List (List ℕ)) × Strings cs × (length cs ≡ numberAt s at) × (setBytes cs ≡ b)
+  unfolding layout ZeroPadded judgeOf setBytes
+  set-again slots b u p r x (says-number i n at' k b' p' l y) e z q =
+      let e' : drop at s ≡ numberBytes n ++ (b' ++ u) = simp append-assoc at e in
+      let i = strings-back s u slots 0 n (at + 8) b' p' (noted r (asCount 0) n) x y (past s at 8 (numberBytes n) (b' ++ u) e' (length-number n)) z q in
+      (i .0, i .3, i .2 ∙ head-number s at n (b' ++ u) e' l, simp (i .1, i .2))
 
-set-again : (s u b : List ℕ) (slots : ℕ) (p : Pieces) (r : Record) (x : Ended) → Says (field (set kept (asCount 0))) 0 b p → s ≡ b ++ u → ZeroPadded s p
-    → judgeOf s slots 0 r p ≡ ok x
-    → (cs : List (List ℕ)) × (textsOf s (entriesOf (setPieces s)) (numberAt s 0) ≡ ok cs) × (setBytes cs ≡ b)
-unfolding layout ZeroPadded judgeOf setBytes
-set-again s u b slots p r x (says-number i n at k b' p' l y) e z q =
-    let e' : s ≡ numberBytes n ++ (b' ++ u) = simp append-assoc at e in
-    let i = strings-back s u slots 0 n 8 b' p' (noted r (asCount 0) n) x y (past s 0 8 (numberBytes n) (b' ++ u) e' (length-number n)) z q in
-    let cs = i .0 in
-    let again : setBytes cs ≡ b = simp (i .1, i .2) in
-    let j = head-number s 0 n (b' ++ u) e' l in
-    (cs, shown-in s u cs (i .3) (omega arith) (rw again e) (i .2 ∙ j), again)
+  module _ (bytes : Bytes s) where
+    ends-there : {t : Tree} {e : ℕ} {p : Pieces} (y : Begins t s at e p) → drop at s ≡ y .these ++ drop e s
+    ends-there y = y .splits ∙ ap (λ (o : List ℕ). y .these ++ o) (sym (past s at (length (y .these)) (y .these) (y .rest) (y .splits) refl) ∙ ap (λ (n : ℕ). drop n s) (y .ends))
 
-pub string-back : (s : List ℕ) (x : Ended) → Bytes s → readString s 0 ≡ ok x → Zeros s (8 + numberAt s 0) (x .ends)
-    → stringBytes (take (numberAt s 0) (drop 8 s)) ≡ take (x .ends) s
-string-back s x h q z =
-    let y = read-grammar (field (str kept)) s (x .ends) h (judge-read s 1 0 blank (stringPieces s) x q .skips) in
-    string-again s (y .1) (y .0) (stringPieces s) (y .3) (y .2) (rw (y .4) z) ∙ sym (ap (take (x .ends)) (y .2) ∙ take-at (y .0) (y .1) (x .ends) (y .4))
+    -- a string that is passed, with zero padding: its bytes are those that are written of its contents
+    pub skipped-back : (m : Role) (e : ℕ) → skipOf (run (field (str m)) s at) ≡ ok e → Zeros s (at + 8 + numberAt s at) e → StringBack s at e
+    skipped-back m e q z =
+        let y = sound s bytes (field (str m)) at e q in
+        let a = string-again m (y .these) (y .rest) _ (y .says) (y .splits) (rw (y .ends) z) in
+        record {
+          small = a .0;
+          stands = ends-there y ∙ ap (λ (o : List ℕ). o ++ drop e s) (sym (a .1));
+          size = ap (λ (o : List ℕ). at + length o) (a .1) ∙ y .ends;
+        }
 
-pub set-back : (s : List ℕ) (slots : ℕ) (x : Ended) → Bytes s → readStringSet s 0 slots ≡ ok x → ZeroPadded s (setPieces s)
-    → (cs : List (List ℕ)) × (textsOf s (entriesOf (setPieces s)) (numberAt s 0) ≡ ok cs) × (setBytes cs ≡ take (x .ends) s)
-set-back s slots x h q z =
-    let y = read-grammar (field (set kept (asCount 0))) s (x .ends) h (judge-read s slots 0 blank (setPieces s) x q .skips) in
-    let a = set-again s (y .1) (y .0) slots (setPieces s) blank x (y .3) (y .2) z q in
-    (a .0, a .1, a .2 ∙ sym (ap (take (x .ends)) (y .2) ∙ take-at (y .0) (y .1) (x .ends) (y .4)))
+    -- one that reads: and its contents are text
+    pub string-back : (x : Ended) → readString s at ≡ ok x → Zeros s (at + 8 + numberAt s at) (x .ends) → StringBack s at (x .ends) × Text (contentsAt s at)
+    unfolding judgeOf
+    string-back x q z =
+        let a = skipped-back kept (x .ends) (judge-read s 1 0 blank (run (field (str kept)) s at) x q .skips) z in
+        let c = contentsAt s at in
+        let n = string-number s at c (drop (x .ends) s) (a .stands) (a .small) in
+        let o = rw (string-pieces s at c (drop (x .ends) s) (a .stands) (a .small) kept) at q in
+        let t = taken-text s 1 blank _ (at + 8) (length c) (onward-ok (textTaken s 1 blank kept (at + 8) (length c)) _ x o .1) in
+        (a, is-text c (rw (← n) at t))
+
+    -- a set that reads, with zero padding: its bytes are those that are written of its own entries
+    pub set-back : (slots : ℕ) (x : Ended) → readStringSet s at slots ≡ ok x → ZeroPadded s (setPieces s at) → SetBack s at slots (x .ends)
+    set-back slots x q z =
+        let j = judge-read s slots 0 blank (setPieces s at) x q in
+        let y = sound s bytes (field (set kept (asCount 0))) at (x .ends) (j .skips) in
+        let a = set-again slots (y .these) (y .rest) (setPieces s at) blank x (y .says) (y .splits) z q in
+        let d = ends-there y ∙ ap (λ (o : List ℕ). o ++ drop (x .ends) s) (sym (a .3)) in
+        let h : length (a .0) < 18446744073709551616 = omega (arith, a .2, number-small s at bytes) in
+        let k = set-entries s at (a .0) (drop (x .ends) s) d (a .1) h in
+        let f = j .fits (omega arith) (omega arith) .0 in
+        record {
+          these = a .0;
+          fine = a .1;
+          many = a .2;
+          fits = omega (arith, k, f, entries-length (setPieces s at));
+          shown = λ spare. ap (textsOf s (entriesOf (setPieces s at) ++ spare)) (sym (a .2)) ∙ set-shown s at (a .0) (drop (x .ends) s) d (a .1) h spare;
+          stands = d;
+          size = ap (λ (o : List ℕ). at + length o) (a .3) ∙ y .ends;
+        }

@@ -135,13 +135,26 @@ pub soft-run-at : (t : Tree) (s s' : List ℕ) (at : ℕ) → at ≤ length s �
     → ((x : ℕ) → at ≤ x → x < length s → Before (run t s at) x → soft (run t s at) x ≡ false → getD s' x 0 ≡ getD s x 0) → run t s' at ≡ run t s at
 soft-run-at t s s' at h same a = same-run s s' same t at h (λ x g b q. in-or-out s s' same x (decLt x (length s)) (λ l. a x g l b q))
 
-pub soft-run : (t : Tree) (s s' : List ℕ) → Softened (run t s 0) s s' → run t s' 0 ≡ run t s 0
-soft-run t s s' a = soft-run-at t s s' 0 (omega arith) (a .size) (λ x g l b q. a .hard x l q)
-
--- what follows is as before
-pub soft-rest : (t : Tree) (s s' : List ℕ) (e : ℕ) → Softened (run t s 0) s s' → skipOf (run t s 0) ≡ ok e → drop e s' ≡ drop e s
-soft-rest t s s' e a q =
-    let l : length (drop e s') ≡ length (drop e s) = simp (length-drop, a .size) in
+-- two streams that are as long and agree from a place on are the same from there on
+pub same-drop : (s s' : List ℕ) (e : ℕ) → length s' ≡ length s → ((x : ℕ) → e ≤ x → x < length s → getD s' x 0 ≡ getD s x 0) → drop e s' ≡ drop e s
+same-drop s s' e same a =
+    let l : length (drop e s') ≡ length (drop e s) = simp (length-drop, same) in
     ext-getD 0 (drop e s') (drop e s) l
-    (λ i h. let m = length-drop e s in
-    getD-drop e s' i 0 ∙ a .hard (e + i) (omega arith) (soft-high e (e + i) (run-placed t s 0 (omega arith)) q (omega arith)) ∙ sym (getD-drop e s i 0))
+    (λ i h. let m = length-drop e s in getD-drop e s' i 0 ∙ a (e + i) (omega arith) (omega arith) ∙ sym (getD-drop e s i 0))
+
+-- s' is as s but for soft bytes of what the tree has from a place on
+module _ (t : Tree) (s s' : List ℕ) (at : ℕ) (h : at ≤ length s) (a : Softened (run t s at) s s') where
+  -- the pieces are decided by numbers alone
+  pub soft-run-from : run t s' at ≡ run t s at
+  soft-run-from = soft-run-at t s s' at h (a .size) (λ x g l b q. a .hard x l q)
+
+  -- what follows is as before
+  pub soft-rest-from : (e : ℕ) → skipOf (run t s at) ≡ ok e → drop e s' ≡ drop e s
+  soft-rest-from e q = same-drop s s' e (a .size) (λ x g l. a .hard x l (soft-high e x (run-placed t s at h) q g))
+
+-- the same from the start
+pub soft-run : (t : Tree) (s s' : List ℕ) → Softened (run t s 0) s s' → run t s' 0 ≡ run t s 0
+soft-run t s s' a = soft-run-from t s s' 0 (omega arith) a
+
+pub soft-rest : (t : Tree) (s s' : List ℕ) (e : ℕ) → Softened (run t s 0) s s' → skipOf (run t s 0) ≡ ok e → drop e s' ≡ drop e s
+soft-rest t s s' e a q = soft-rest-from t s s' 0 (omega arith) a e q

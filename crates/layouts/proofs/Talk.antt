@@ -1,9 +1,9 @@
--- Handshakes: numbers alone decide what is heard on both streams.
+-- Handshakes: numbers alone decide what is heard on both streams, and what follows on each is as before.
 use Prim.Native.Nat.{ℕ, _+_, _≤_, _<_}
-use mathlib.Core.Path.{_≡_, refl, _∙_, ap}
+use mathlib.Core.Path.{_≡_, refl, sym, _∙_, ap}
 use mathlib.Core.List.{List, []}
 use mathlib.Core.Bool.{Bool, true, false, _||_}
-use lib.ListN.{length, getD}
+use lib.ListN.{length, getD, drop}
 use lib.Dec.{eqb}
 use native.Mathlib.Omega.{arith}
 use native.Mathlib.Nat.{zero-add}
@@ -16,10 +16,12 @@ use Rattle.layouts.specs.Judge.{notText, Ended}
 use Rattle.layouts.specs.Handshake.{Talk, turn, lost, over, Heard, heard, failed, ended, ifEnds, hear, Both, onStream, judgeHeard, clientMagic, daemonMagic, numberIn, fieldsAt, hello, featureFields, obsoleteFields, infoFields, daemonInfo, daemonGreeting, greeting, handshake, daemonHandshake, handshakeAnswer, parseHandshake, parseDaemonHandshake}
 use Rattle.layouts.specs.Stderr.{Last}
 use Rattle.layouts.specs.Soft.{soft, softHeard, SoftenedOn, orBad, unlessBad, skipHeard, recordHeard, keptHeard, orOn, unlessHeard}
+use Rattle.layouts.specs.Demands.{Verdict, all-text, first-bad, in-turn, after-turn, VerdictHeard, all-heard, first-heard, bothMean, handshakeMeaning, daemonMeaning}
 use Rattle.layouts.proofs.Trees.{no-payload}
 use Rattle.layouts.proofs.Placed.{never-both, run-placed, ends, soft-low, soft-high, neither}
-use Rattle.layouts.proofs.Soft.{Before, soft-run-at}
+use Rattle.layouts.proofs.Soft.{Before, soft-run-at, same-drop}
 use Rattle.layouts.proofs.Judge.{record-room, judge-room}
+use Rattle.layouts.proofs.Theorems.{unless-bad}
 
 -- of what follows a turn
 rest-soft : (d c : Bool) (x : ℕ) (o : Result ℕ) (k : ℕ → Heard) → ((e : ℕ) → o ≡ ok e → softHeard d (k e) x ≡ false) → softHeard d (ifEnds c o k) x ≡ false
@@ -115,6 +117,84 @@ pub soft-hear : (x : Talk) (r : Record) (s s' u u' : List ℕ) → SoftenedOn fa
 soft-hear x r s s' u u' f f' =
     same-hear s s' u u' (f .size) (f' .size) x 0 0 r (omega arith) (omega arith) (λ y l m o. f .hard y m o) (λ y l m o. f' .hard y m o)
 
+-- a turn that is passed to its end
+turn-passed : (d : Bool) (o : Result ℕ) (h : Result Both) (x : Both) → onward (onStream d o) (λ e. h) ≡ ok x → (e : ℕ) × (o ≡ ok e) × (h ≡ ok x)
+turn-passed d (ok e) h x q = (e, refl, q)
+turn-passed d (refused which place stream) h x q = absurd (never-both q)
+
+-- ---- where both streams are passed to the end
+module _ (s u : List ℕ) (z : Both) where
+  -- the end of a turn, and that what follows it is passed to the end
+  passed-on : (d : Bool) (p : Pieces) (k : ℕ → Heard) → skipHeard (heard d p (ifEnds d (skipOf p) k)) ≡ ok z → (e : ℕ) × (skipOf p ≡ ok e) × (skipHeard (k e) ≡ ok z)
+  unfolding skipHeard
+  passed-on d p k q =
+      let w = turn-passed d (skipOf p) (skipHeard (ifEnds d (skipOf p) k)) z q in
+      (w .0, w .1, sym (ap (λ (o : Result ℕ). skipHeard (ifEnds d o k)) (w .1)) ∙ w .2)
+
+  -- the places are not behind the ends
+  heard-ends : (x : Talk) (a b : ℕ) (r : Record) → a ≤ length s → b ≤ length u → skipHeard (hear x s u a b r) ≡ ok z → (a ≤ z .clientEnds) × (b ≤ z .daemonEnds)
+  unfolding hear skipHeard
+  heard-ends (turn false t k) a b r h g q =
+      let p = run t s a in
+      let w = passed-on false p (λ e. hear (k (recordOf r p) e) s u e b (recordOf r p)) q in
+      let v = ends (w .0) (run-placed t s a h) (w .1) in
+      let y = heard-ends (k (recordOf r p) (w .0)) (w .0) b (recordOf r p) (v .1) g (w .2) in
+      (omega arith, y .1)
+  heard-ends (turn true t k) a b r h g q =
+      let p = run t u b in
+      let w = passed-on true p (λ e. hear (k (recordOf r p) e) s u a e (recordOf r p)) q in
+      let v = ends (w .0) (run-placed t u b g) (w .1) in
+      let y = heard-ends (k (recordOf r p) (w .0)) a (w .0) (recordOf r p) h (v .1) (w .2) in
+      (y .0, omega arith)
+  heard-ends (lost which place stream) a b r h g q = absurd (never-both q)
+  heard-ends over a b r h g q = let c : a ≡ z .clientEnds = cc in let d : b ≡ z .daemonEnds = cc in (omega arith, omega arith)
+
+  -- from its end on a stream has no soft byte
+  heard-high : (y : ℕ) (d : Bool) (x : Talk) (a b : ℕ) (r : Record) → a ≤ length s → b ≤ length u → skipHeard (hear x s u a b r) ≡ ok z
+      → pick d (z .daemonEnds) (z .clientEnds) ≤ y → softHeard d (hear x s u a b r) y ≡ false
+  unfolding hear skipHeard softHeard
+  heard-high y false (turn false t k) a b r h g q l =
+      let p = run t s a in
+      let next : ℕ → Heard = λ e. hear (k (recordOf r p) e) s u e b (recordOf r p) in
+      let w = passed-on false p next q in
+      let v = ends (w .0) (run-placed t s a h) (w .1) in
+      let i = heard-ends (k (recordOf r p) (w .0)) (w .0) b (recordOf r p) (v .1) g (w .2) in
+      neither (soft p y) _ (soft-high (w .0) y (run-placed t s a h) (w .1) (omega arith))
+      (rest-at false false y (skipOf p) next (w .0) (w .1) (heard-high y false (k (recordOf r p) (w .0)) (w .0) b (recordOf r p) (v .1) g (w .2) l))
+  heard-high y true (turn false t k) a b r h g q l =
+      let p = run t s a in
+      let next : ℕ → Heard = λ e. hear (k (recordOf r p) e) s u e b (recordOf r p) in
+      let w = passed-on false p next q in
+      let v = ends (w .0) (run-placed t s a h) (w .1) in
+      rest-at true false y (skipOf p) next (w .0) (w .1) (heard-high y true (k (recordOf r p) (w .0)) (w .0) b (recordOf r p) (v .1) g (w .2) l)
+  heard-high y false (turn true t k) a b r h g q l =
+      let p = run t u b in
+      let next : ℕ → Heard = λ e. hear (k (recordOf r p) e) s u a e (recordOf r p) in
+      let w = passed-on true p next q in
+      let v = ends (w .0) (run-placed t u b g) (w .1) in
+      rest-at false true y (skipOf p) next (w .0) (w .1) (heard-high y false (k (recordOf r p) (w .0)) a (w .0) (recordOf r p) h (v .1) (w .2) l)
+  heard-high y true (turn true t k) a b r h g q l =
+      let p = run t u b in
+      let next : ℕ → Heard = λ e. hear (k (recordOf r p) e) s u a e (recordOf r p) in
+      let w = passed-on true p next q in
+      let v = ends (w .0) (run-placed t u b g) (w .1) in
+      let i = heard-ends (k (recordOf r p) (w .0)) a (w .0) (recordOf r p) h (v .1) (w .2) in
+      neither (soft p y) _ (soft-high (w .0) y (run-placed t u b g) (w .1) (omega arith))
+      (rest-at true true y (skipOf p) next (w .0) (w .1) (heard-high y true (k (recordOf r p) (w .0)) a (w .0) (recordOf r p) h (v .1) (w .2) l))
+  heard-high y d (lost which place stream) a b r h g q l = refl
+  heard-high y d over a b r h g q l = refl
+
+-- what follows on a stream is as before
+pub soft-heard-client : (x : Talk) (r : Record) (s s' u : List ℕ) → SoftenedOn false (hear x s u 0 0 r) s s' → (z : Both) → skipHeard (hear x s u 0 0 r) ≡ ok z
+    → drop (z .clientEnds) s' ≡ drop (z .clientEnds) s
+soft-heard-client x r s s' u f z q =
+    same-drop s s' (z .clientEnds) (f .size) (λ y g l. f .hard y l (heard-high s u z y false x 0 0 r (omega arith) (omega arith) q g))
+
+pub soft-heard-daemon : (x : Talk) (r : Record) (s u u' : List ℕ) → SoftenedOn true (hear x s u 0 0 r) u u' → (z : Both) → skipHeard (hear x s u 0 0 r) ≡ ok z
+    → drop (z .daemonEnds) u' ≡ drop (z .daemonEnds) u
+soft-heard-daemon x r s u u' f z q =
+    same-drop u u' (z .daemonEnds) (f .size) (λ y g l. f .hard y l (heard-high s u z y true x 0 0 r (omega arith) (omega arith) q g))
+
 -- ---- reading, with room
 or-on : {A : Type 0} (d b : Bool) (start : ℕ) (o : Result Ended) (k : Ended → Result A) (v : Result (Unit {0})) (a : Result A)
     → onward (onStream d o) k ≡ orOn d v a → onward (onStream d (orBad b start o)) k ≡ orOn d (orBad b start v) a
@@ -130,11 +210,6 @@ unless-on d s (half m start len) x k = or-on d (notText s m start len) start (ok
 unless-on d s (chunk start len p) x k = unless-on d s p x k
 unless-on d s (end place) x k = refl
 unless-on d s (fault which place) x k = refl
-
--- a turn that is passed to its end
-turn-passed : (d : Bool) (o : Result ℕ) (h : Result Both) (x : Both) → onward (onStream d o) (λ e. h) ≡ ok x → (e : ℕ) × (o ≡ ok e) × (h ≡ ok x)
-turn-passed d (ok e) h x q = (e, refl, q)
-turn-passed d (refused which place stream) h x q = absurd (never-both q)
 
 unfoldable pub totalHeard : Heard → ℕ
 totalHeard (heard d p h) = totalOf p + totalHeard h
@@ -215,33 +290,66 @@ daemon-payload c =
     at-turn (hello-payload 2 3) λ r e.
     either (eqb (numberIn r 2) daemonMagic) (at-turn (features-payload _ 1) λ r e. info-payload _) at-lost
 
+-- ---- what `unlessHeard` says, in RFC 3629's words
+module _ {A : Type 0} (s u : List ℕ) where
+  turn-verdict : {d : Bool} {p : Pieces} {h : Heard} {o a : Result A} {v : Result (Unit {0})} → Verdict (pick d u s) p (ok tt) v → VerdictHeard s u h o a
+      → VerdictHeard s u (heard d p h) o (orOn d v a)
+  turn-verdict (all-text f) (all-heard g) = all-heard (f, g)
+  turn-verdict (all-text f) (first-heard g) = first-heard (after-turn f g)
+  turn-verdict (first-bad f) w = first-heard (in-turn f)
+
+  -- every decoded string is text and the answer is as given, or 3 at the first that is not, on its stream
+  pub unless-heard : (h : Heard) (o : Result A) → VerdictHeard s u h o (unlessHeard s u h o)
+  unfolding unlessHeard
+  unless-heard (heard d p h) o = turn-verdict (unless-bad (pick d u s) p (ok tt)) (unless-heard h o)
+  unless-heard (failed which place stream) o = all-heard tt
+  unless-heard (ended a b) o = all-heard tt
+
+-- an answer is built from what was judged, unless a text was bad
+or-on-answered : {A B : Type 0} (d : Bool) (v : Result (Unit {0})) (o : Result A) (o' : Result B) (k : A → Result B) → onward o k ≡ o' → onward (orOn d v o) k ≡ orOn d v o'
+or-on-answered d (ok x) o o' k e = e
+or-on-answered d (refused which place stream) o o' k e = refl
+
+heard-answered : {A B : Type 0} (s u : List ℕ) (h : Heard) (x : A) (k : A → Result B) → onward (unlessHeard s u h (ok x)) k ≡ unlessHeard s u h (k x)
+unfolding unlessHeard
+heard-answered s u (heard d p h) x k =
+    or-on-answered d (unlessBad (pick d u s) p (ok tt)) (unlessHeard s u h (ok x)) (unlessHeard s u h (k x)) k (heard-answered s u h x k)
+heard-answered s u (failed which place stream) x k = refl
+heard-answered s u (ended a b) x k = refl
+
 -- ---- demand 3 for both handshakes: where both streams are passed to the end, and with room for all entries, streams that differ in soft bytes only are read
 -- the same, unless a decoded string is not text: then 3 at the first such one, on its stream
 module _ (x : Talk) (f : NoPayload x) (s s' u u' : List ℕ) (a : SoftenedOn false (hear x s u 0 0 blank) s s') (b : SoftenedOn true (hear x s u 0 0 blank) u u')
     (slots : ℕ) (e : Both) (q : skipHeard (hear x s u 0 0 blank) ≡ ok e) (l : keptHeard (hear x s u 0 0 blank) ≤ slots) where
-  soft-judge : judgeHeard s' u' slots blank (hear x s' u' 0 0 blank)
-      ≡ unlessHeard s' u' (hear x s u 0 0 blank) (ok (withFound (recordHeard blank (hear x s u 0 0 blank)) e))
-  soft-judge =
+  soft-judge : {A : Type 0} (k : Both → Result A) → onward (judgeHeard s' u' slots blank (hear x s' u' 0 0 blank)) k
+      ≡ unlessHeard s' u' (hear x s u 0 0 blank) (k (bothMean (hear x s u 0 0 blank) e))
+  soft-judge k =
       let z = hear-payload f s u 0 0 blank in
-      ap (judgeHeard s' u' slots blank) (soft-hear x blank s s' u u' a b)
-      ∙ heard-room s' u' slots blank (hear x s u 0 0 blank) e q (omega arith) (omega arith)
+      ap (λ (h : Heard). onward (judgeHeard s' u' slots blank h) k) (soft-hear x blank s s' u u' a b)
+      ∙ ap (λ (o : Result Both). onward o k) (heard-room s' u' slots blank (hear x s u 0 0 blank) e q (omega arith) (omega arith))
+      ∙ heard-answered s' u' (hear x s u 0 0 blank) (bothMean (hear x s u 0 0 blank) e) k
 
-pub soft-handshake : (s s' u u' : List ℕ) → SoftenedOn false (hear handshake s u 0 0 blank) s s' → SoftenedOn true (hear handshake s u 0 0 blank) u u'
-    → (slots : ℕ) (e : Both) → skipHeard (hear handshake s u 0 0 blank) ≡ ok e → keptHeard (hear handshake s u 0 0 blank) ≤ slots
-    → parseHandshake s' u' slots
-    ≡ onward (unlessHeard s' u' (hear handshake s u 0 0 blank) (ok (withFound (recordHeard blank (hear handshake s u 0 0 blank)) e)))
-    (λ x. handshakeAnswer (fromWire (numberIn (x .found) 1)) x)
-unfolding parseHandshake
-soft-handshake s s' u u' a b slots e q l =
-    ap (λ (o : Result Both). onward o (λ x. handshakeAnswer (fromWire (numberIn (x .found) 1)) x))
-    (soft-judge handshake handshake-payload s s' u u' a b slots e q l)
+module _ (s s' u u' : List ℕ) (a : SoftenedOn false (hear handshake s u 0 0 blank) s s') (b : SoftenedOn true (hear handshake s u 0 0 blank) u u') (e : Both)
+    (q : skipHeard (hear handshake s u 0 0 blank) ≡ ok e) where
+  -- both sides
+  pub soft-handshake : (slots : ℕ) → keptHeard (hear handshake s u 0 0 blank) ≤ slots
+      → parseHandshake s' u' slots ≡ unlessHeard s' u' (hear handshake s u 0 0 blank) (handshakeMeaning (hear handshake s u 0 0 blank) e)
+  unfolding parseHandshake
+  soft-handshake slots l = soft-judge handshake handshake-payload s s' u u' a b slots e q l (λ x. handshakeAnswer (fromWire (numberIn (x .found) 1)) x)
 
-pub soft-daemon-handshake : (c : Version) (u u' : List ℕ) → SoftenedOn true (hear (daemonHandshake c) [] u 0 0 blank) u u'
-    → (slots : ℕ) (e : Both) → skipHeard (hear (daemonHandshake c) [] u 0 0 blank) ≡ ok e → keptHeard (hear (daemonHandshake c) [] u 0 0 blank) ≤ slots
-    → parseDaemonHandshake c u' slots
-    ≡ onward (unlessHeard [] u' (hear (daemonHandshake c) [] u 0 0 blank) (ok (withFound (recordHeard blank (hear (daemonHandshake c) [] u 0 0 blank)) e)))
-    (handshakeAnswer c)
-unfolding parseDaemonHandshake
-soft-daemon-handshake c u u' b slots e q l =
-    ap (λ (o : Result Both). onward o (handshakeAnswer c))
-    (soft-judge (daemonHandshake c) (daemon-payload c) [] [] u u' (record { size = refl; hard = λ x h o. refl }) b slots e q l)
+  -- what follows on both streams is as before
+  pub soft-rest-handshake : (drop (e .clientEnds) s' ≡ drop (e .clientEnds) s) × (drop (e .daemonEnds) u' ≡ drop (e .daemonEnds) u)
+  soft-rest-handshake = (soft-heard-client handshake blank s s' u a e q, soft-heard-daemon handshake blank s u u' b e q)
+
+module _ (c : Version) (u u' : List ℕ) (b : SoftenedOn true (hear (daemonHandshake c) [] u 0 0 blank) u u') (e : Both)
+    (q : skipHeard (hear (daemonHandshake c) [] u 0 0 blank) ≡ ok e) where
+  -- the daemon's side alone
+  pub soft-daemon-handshake : (slots : ℕ) → keptHeard (hear (daemonHandshake c) [] u 0 0 blank) ≤ slots
+      → parseDaemonHandshake c u' slots ≡ unlessHeard [] u' (hear (daemonHandshake c) [] u 0 0 blank) (daemonMeaning c (hear (daemonHandshake c) [] u 0 0 blank) e)
+  unfolding parseDaemonHandshake
+  soft-daemon-handshake slots l =
+      soft-judge (daemonHandshake c) (daemon-payload c) [] [] u u' (record { size = refl; hard = λ x h o. refl }) b slots e q l (λ x. handshakeAnswer c x)
+
+  -- what follows is as before
+  pub soft-rest-daemon-handshake : drop (e .daemonEnds) u' ≡ drop (e .daemonEnds) u
+  soft-rest-daemon-handshake = soft-heard-daemon (daemonHandshake c) blank [] u u' b e q

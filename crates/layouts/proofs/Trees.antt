@@ -24,7 +24,7 @@ abbrev pub AllFit : Type 0 → List Item → Type 0
 AllFit F [] = Unit {0}
 AllFit F (x ∷ is) = Fits F (what x) × AllFit F is
 
-abbrev GroupsFit : Type 0 → List Group → Type 0
+abbrev pub GroupsFit : Type 0 → List Group → Type 0
 GroupsFit F [] = Unit {0}
 GroupsFit F (once is ∷ gs) = AllFit F is × GroupsFit F gs
 GroupsFit F (opt i is ∷ gs) = AllFit F is × GroupsFit F gs
@@ -122,10 +122,13 @@ text-payload r k (no-contents h l c) e = refl
 text-payload r k (no-padding h l c) e = refl
 text-payload r k (is-whole h l) e = e _
 
-pub no-payload : (v : Version) (is : List Item) → AllFit ⊥ is → (s : List ℕ) (at : ℕ) → totalOf (run (layout v (once is ∷ [])) s at) ≡ 0
-unfolding layout groups group run NoPayload totalOf
-no-payload v is f =
-    of-fields ⊥ NoPayload
+pub groups-no-payload : (v : Version) (gs : List Group) → GroupsFit ⊥ gs → (s : List ℕ) (at : ℕ) → totalOf (run (layout v gs) s at) ≡ 0
+unfolding layout run NoPayload totalOf
+groups-no-payload v gs f =
+    of-groups ⊥ NoPayload
     (λ i k h s at. num-payload i (λ n. run (k n) s _) (num-view (length s) (numberAt s at) at) (h _ s _))
     (λ m k h s at. text-payload m (λ a. run (k tt) s a) (text-view (length s) (numberAt s at) at) (λ a. h s a))
-    (λ f k h. absurd f) v is (λ u. stop) f (λ s at. refl)
+    (λ f k h. absurd f) v gs (λ u. stop) f (λ s at. refl)
+
+pub no-payload : (v : Version) (is : List Item) → AllFit ⊥ is → (s : List ℕ) (at : ℕ) → totalOf (run (layout v (once is ∷ [])) s at) ≡ 0
+no-payload v is f = groups-no-payload v (once is ∷ []) (f, tt)

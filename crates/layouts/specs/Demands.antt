@@ -1,22 +1,29 @@
 -- What the theorems about the demands speak of, beside the calls.
 use Prim.Native.Nat.{ℕ, _+_, _≤_, _<_}
 use mathlib.Core.Path.{_≡_}
-use mathlib.Core.List.{List, [], _∷_}
+use mathlib.Core.List.{List, [], _∷_, _++_}
 use mathlib.Core.Bool.{Bool, true, _||_}
 use lib.ListN.{length, getD, take, drop}
 use lib.Dec.{eqb}
 use Rattle.text.specs.Rfc3629.{Text}
-use Rattle.layouts.specs.Primitive.{limit, padOf, Version, version, atLeast, badText, Result, ok, refused}
-use Rattle.layouts.specs.Shape.{Slot, Role}
-use Rattle.layouts.specs.Pieces.{Pieces, number, text, half, chunk, end, fault}
+use Rattle.layouts.specs.Primitive.{pick, numberAt, limit, padOf, Version, version, fromWire, atLeast, badText, Result, ok, refused}
+use Rattle.layouts.specs.Shape.{Slot, asCount, Role, kept, set}
+use Rattle.layouts.specs.Pieces.{Pieces, number, text, half, chunk, end, fault, run}
 use Rattle.layouts.specs.Record.{blank, recordOf}
-use Rattle.layouts.specs.Judge.{isDecoded}
+use Rattle.layouts.specs.Judge.{isDecoded, entriesOf}
 use Rattle.layouts.specs.Operations.{Kinds}
-use Rattle.layouts.specs.Calls.{Answer, answered}
+use Rattle.layouts.specs.Calls.{Answer, answered, field}
+use Rattle.layouts.specs.Handshake.{Heard, heard, failed, ended, streamOf, Both, numberIn, handshakeAnswer}
+use Rattle.layouts.specs.Writers.{stringBytes, setBytes, textsOf}
+use Rattle.layouts.specs.Soft.{recordHeard}
 
 -- the elements of a list are bytes; of a `&[u8]` they are
 abbrev pub Bytes : List ℕ → Type 0
 Bytes s = (x : ℕ) → getD s x 0 < 256
+
+-- and there are fewer of them than 2^63
+abbrev pub Held : List ℕ → Type 0
+Held s = Bytes s × (length s < 9223372036854775808)
 
 -- ---- demand 1: refused, at this place or an earlier one
 abbrev pub RefusedBy : {A : Type 0} → (place : ℕ) → Result A → Type 0
@@ -40,6 +47,30 @@ ZeroPadded s (chunk start len p) = ZeroPadded s p
 ZeroPadded s (end place) = Unit {0}
 ZeroPadded s (fault which place) = Unit {0}
 
+-- what the reader of a set judges
+abbrev pub setPieces : List ℕ → (at : ℕ) → Pieces
+setPieces s at = run (field (set kept (asCount 0))) s at
+
+-- the contents of the string at a place
+abbrev pub contentsAt : List ℕ → (at : ℕ) → List ℕ
+contentsAt s at = take (numberAt s at) (drop (at + 8) s)
+
+-- from the place to the end stand the bytes that are written of the contents
+pub record StringBack (s : List ℕ) (at ends : ℕ) : Type 0 where
+  pub small : length (contentsAt s at) ≤ limit
+  pub stands : drop at s ≡ stringBytes (contentsAt s at) ++ drop ends s
+  pub size : at + length (stringBytes (contentsAt s at)) ≡ ends
+
+-- and of a set those of its strings, which are found by its own entries, whatever follows the entries
+pub record SetBack (s : List ℕ) (at slots ends : ℕ) : Type 0 where
+  pub these : List (List ℕ)
+  pub fine : Strings these
+  pub many : length these ≡ numberAt s at
+  pub fits : length these ≤ slots
+  pub shown : (spare : List ℕ) → textsOf s (entriesOf (setPieces s at) ++ spare) (numberAt s at) ≡ ok these
+  pub stands : drop at s ≡ setBytes these ++ drop ends s
+  pub size : at + length (setBytes these) ≡ ends
+
 -- the arguments have an F: of AddToStore from 1.25 on
 abbrev pub framedArguments : ℕ → Bool
 framedArguments op = eqb op 7 || eqb op 44 || eqb op 45
@@ -52,6 +83,10 @@ Alike op v = op ≡ 7 → atLeast v (version 1 25) ≡ true
 -- what the pieces mean: kind, end, numbers, flags and counts
 abbrev pub meaningOf : Version → Kinds → Pieces → (e : ℕ) → Result Answer
 meaningOf v k p e = answered v k (ok (record { found = recordOf blank p; ends = e }))
+
+-- no byte of a part was changed
+abbrev pub Untouched : (s s' : List ℕ) → (start len : ℕ) → Type 0
+Untouched s s' start len = (x : ℕ) → start ≤ x → x < start + len → getD s' x 0 ≡ getD s x 0
 
 -- a string, if it is decoded, is RFC 3629 text; it is decoded and is not
 abbrev pub Fine : List ℕ → Role → (start len : ℕ) → Type 0
@@ -81,3 +116,30 @@ pub data FirstBad (s : List ℕ) : Pieces → (start : ℕ) → Type 0 where
 pub data Verdict {A : Type 0} (s : List ℕ) (p : Pieces) (o : Result A) : Result A → Type 0 where
   all-text : AllText s p → Verdict s p o o
   first-bad : {start : ℕ} → FirstBad s p start → Verdict s p o (refused badText start 0)
+
+-- ---- the same of a handshake, whose strings stand on two streams
+abbrev pub AllTextHeard : (s u : List ℕ) → Heard → Type 0
+AllTextHeard s u (heard d p h) = AllText (pick d u s) p × AllTextHeard s u h
+AllTextHeard s u (failed which place stream) = Unit {0}
+AllTextHeard s u (ended a b) = Unit {0}
+
+-- the first decoded string that is not text has its contents here, on this stream
+pub data FirstBadHeard (s u : List ℕ) : Heard → (start stream : ℕ) → Type 0 where
+  in-turn : {d : Bool} {p : Pieces} {h : Heard} {start : ℕ} → FirstBad (pick d u s) p start → FirstBadHeard s u (heard d p h) start (streamOf d)
+  after-turn : {d : Bool} {p : Pieces} {h : Heard} {start stream : ℕ} → AllText (pick d u s) p → FirstBadHeard s u h start stream
+      → FirstBadHeard s u (heard d p h) start stream
+
+-- one of two: o, and every decoded string of both streams is text; 3 at the first that is not, on its stream
+pub data VerdictHeard {A : Type 0} (s u : List ℕ) (h : Heard) (o : Result A) : Result A → Type 0 where
+  all-heard : AllTextHeard s u h → VerdictHeard s u h o o
+  first-heard : {start stream : ℕ} → FirstBadHeard s u h start stream → VerdictHeard s u h o (refused badText start stream)
+
+-- what both streams mean: the record of all turns, and both ends
+abbrev pub bothMean : Heard → Both → Both
+bothMean h e = record { found = recordHeard blank h; clientEnds = e .clientEnds; daemonEnds = e .daemonEnds }
+
+abbrev pub handshakeMeaning : Heard → Both → Result Answer
+handshakeMeaning h e = handshakeAnswer (fromWire (numberIn (recordHeard blank h) 1)) (bothMean h e)
+
+abbrev pub daemonMeaning : Version → Heard → Both → Result Answer
+daemonMeaning c h e = handshakeAnswer c (bothMean h e)

@@ -11,7 +11,7 @@ use Rattle.layouts.specs.Shape.{Group, layout}
 use Rattle.layouts.specs.Pieces.{Pieces, number, text, half, chunk, end, fault, run, skipOf}
 use Rattle.layouts.specs.Record.{blank, isKept, recordOf}
 use Rattle.layouts.specs.Judge.{notText}
-use Rattle.layouts.specs.Stderr.{Message, noCode, terminal, goes, messageOf}
+use Rattle.layouts.specs.Stderr.{Message, noCode, terminal, goes, messageOf, stderrLoop, errorPieces}
 use Rattle.layouts.specs.Handshake.{Heard, heard, failed, ended, streamOf, onStream, Both}
 
 abbrev pub within : (start next x : ℕ) → Bool
@@ -115,3 +115,11 @@ softFrom (suc f) s at x =
 pub record SoftenedStderr (s s' : List ℕ) : Type 0 where
   pub size : length s' ≡ length s
   pub hard : (x : ℕ) → x < length s → softFrom (suc (length s)) s 0 x ≡ false → getD s' x 0 ≡ getD s x 0
+
+-- ---- the same of `read_stderr_with_error`: of the messages, and of the error block behind an Error
+unfoldable pub softError : List ℕ → (x : ℕ) → Bool
+softError s x = softFrom (suc (length s)) s 0 x || soft (errorPieces s (stderrLoop s)) x
+
+pub record SoftenedError (s s' : List ℕ) : Type 0 where
+  pub size : length s' ≡ length s
+  pub hard : (x : ℕ) → x < length s → softError s x ≡ false → getD s' x 0 ≡ getD s x 0

@@ -1,4 +1,11 @@
--- `Unique`, `UniqueReads` and `UniqueWrites`: each exported contract has one answer.
+-- `Unique`, `UniqueReads` and `UniqueWrites`: each exported contract has one answer. `Demands`: demands 1 and 3, of the functions that are lent room; `Told` serves it.
+-- `RoundTrips` and `ExportedTrips`: demand 2, what is written reads back, and what reads is written again; `TripLaws` and `BlockLaws` serve them.
 pub mod Unique
 pub mod UniqueReads
 pub mod UniqueWrites
+pub mod Told
+pub mod Demands
+pub mod TripLaws
+pub mod BlockLaws
+pub mod RoundTrips
+pub mod ExportedTrips

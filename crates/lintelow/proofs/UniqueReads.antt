@@ -48,11 +48,11 @@ peek-u64-unique κs a r r′ x x′ p q = (p .0 ∙ sym (q .0), p .1 ∙ sym (q 
 
 pub read-bytes-unique : (κs : Lfts 2) (a : Dens κs read-bytes-kinds.ps) (r r′ : ℕ) (x x′ : AtExit (endedOf 2 read-bytes-kinds.ps read-bytes-kinds.r) κs)
     → read-bytes.Post κs a r x → read-bytes.Post κs a r′ x′ → (r ≡ r′) × (now (x .1 .1 .0) ≡ now (x′ .1 .1 .0))
-read-bytes-unique κs a r r′ x x′ p q = (p .0 ∙ sym (q .0), p .1 ∙ sym (q .1))
+read-bytes-unique κs a r r′ x x′ p q = (p .0 ∙ sym (q .0), p .1 .0 ∙ sym (q .1 .0))
 
 pub read-string-unique : (κs : Lfts 2) (a : Dens κs read-string-kinds.ps) (r r′ : ℕ) (x x′ : AtExit (endedOf 2 read-string-kinds.ps read-string-kinds.r) κs)
     → read-string.Post κs a r x → read-string.Post κs a r′ x′ → (r ≡ r′) × (now (x .1 .1 .0) ≡ now (x′ .1 .1 .0))
-read-string-unique κs a r r′ x x′ p q = (p .0 ∙ sym (q .0), p .1 ∙ sym (q .1))
+read-string-unique κs a r r′ x x′ p q = (p .0 ∙ sym (q .0), p .1 .0 ∙ sym (q .1 .0))
 
 pub skip-string-unique : (κs : Lfts 2) (a : Dens κs skip-string-kinds.ps) (r r′ : ℕ) (x x′ : AtExit (endedOf 2 skip-string-kinds.ps skip-string-kinds.r) κs)
     → skip-string.Post κs a r x → skip-string.Post κs a r′ x′ → (r ≡ r′) × (now (x .1 .1 .0) ≡ now (x′ .1 .1 .0))
@@ -60,7 +60,7 @@ skip-string-unique κs a r r′ x x′ p q = (p .0 ∙ sym (q .0), p .1 ∙ sym 
 
 pub read-string-set-unique : (κs : Lfts 3) (a : Dens κs read-string-set-kinds.ps) (r r′ : ℕ) (x x′ : AtExit (endedOf 3 read-string-set-kinds.ps read-string-set-kinds.r) κs)
     → read-string-set.Post κs a r x → read-string-set.Post κs a r′ x′ → (r ≡ r′) × (now (x .1 .1 .1 .0) ≡ now (x′ .1 .1 .1 .0)) × (now (x .1 .1 .0) ≡ now (x′ .1 .1 .0))
-read-string-set-unique κs a r r′ x x′ p q = (p .0 ∙ sym (q .0), p .1 .0 ∙ sym (q .1 .0), p .1 .1 ∙ sym (q .1 .1))
+read-string-set-unique κs a r r′ x x′ p q = (p .0 ∙ sym (q .0), p .1 .0 ∙ sym (q .1 .0), p .1 .1 .0 ∙ sym (q .1 .1 .0))
 
 pub skip-string-set-unique : (κs : Lfts 2) (a : Dens κs skip-string-set-kinds.ps) (r r′ : ℕ) (x x′ : AtExit (endedOf 2 skip-string-set-kinds.ps skip-string-set-kinds.r) κs)
     → skip-string-set.Post κs a r x → skip-string-set.Post κs a r′ x′ → (r ≡ r′) × (now (x .1 .1 .0) ≡ now (x′ .1 .1 .0))

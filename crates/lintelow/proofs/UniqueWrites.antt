@@ -42,7 +42,7 @@ write-string-unique κs a r r′ x x′ p q = (p .0 ∙ sym (q .0), p .1 .0 ∙ 
 
 pub write-string-set-unique : (κs : Lfts 4) (a : Dens κs write-string-set-kinds.ps) (r r′ : ℕ) (x x′ : AtExit (endedOf 4 write-string-set-kinds.ps write-string-set-kinds.r) κs)
     → write-string-set.Post κs a r x → write-string-set.Post κs a r′ x′ → (r ≡ r′) × (now (x .1 .1 .1 .1 .0) ≡ now (x′ .1 .1 .1 .1 .0)) × (now (x .0) ≡ now (x′ .0))
-write-string-set-unique κs a r r′ x x′ p q = (p .0 ∙ sym (q .0), p .1 .0 ∙ sym (q .1 .0), p .1 .1 ∙ sym (q .1 .1))
+write-string-set-unique κs a r r′ x x′ p q = (p .0 ∙ sym (q .0), p .1 .0 ∙ sym (q .1 .0), p .1 .1 .0 ∙ sym (q .1 .1 .0))
 
 pub write-framed-unique : (κs : Lfts 3) (a : Dens κs write-framed-kinds.ps) (r r′ : ℕ) (x x′ : AtExit (endedOf 3 write-framed-kinds.ps write-framed-kinds.r) κs)
     → write-framed.Post κs a r x → write-framed.Post κs a r′ x′ → (r ≡ r′) × (now (x .1 .1 .0) ≡ now (x′ .1 .1 .0)) × (now (x .0) ≡ now (x′ .0))

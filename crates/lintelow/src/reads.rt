@@ -3,6 +3,7 @@ ghost use mathlib.Core.Path.{_≡_};
 ghost use Rattle.layouts.specs.Primitive.{ok, fromWire};
 ghost use Rattle.layouts.specs.Calls.{readNumber, readU32, peekNumber, skipString, skipStringSet, skipFramed, opHasClientFramedData};
 ghost use Rattle.layouts.specs.Writers.{isStorePath};
+ghost use Rattle.layouts.specs.Demands.{Held};
 ghost use Rattle.walk_judge.specs.Judged.{answerAs};
 ghost use Rattle.wire.specs.Answers.{readBytes, readText};
 ghost use Rattle.lintelow_answers.specs.Answers.{ended, passedTo, stringRead, peekedAt, yesNo, entryRead, versionTold};
@@ -46,6 +47,7 @@ pub extern "C" fn lintelow_peek_u64(s: &[u8], at: usize, block: &mut [u8]) -> u6
 pub extern "C" fn lintelow_read_bytes(s: &[u8], at: usize, block: &mut [u8]) -> u64
     ensures number { λ r. ⌜ r ≡ numberOf (now (block .entry)) (answerAs (stringRead (readBytes (now (s .entry)) at))) ⌝ }
     ensures block { λ r. ⌜ now (block .exit) ≡ blockAfter (now (block .entry)) (answerAs (stringRead (readBytes (now (s .entry)) at))) ⌝ }
+    ensures held { λ r. ⌜ Held (now (s .entry)) ⌝ }
 {
     let c = Cursor { at };
     let r = c.read_bytes(s);
@@ -56,6 +58,7 @@ pub extern "C" fn lintelow_read_bytes(s: &[u8], at: usize, block: &mut [u8]) -> 
 pub extern "C" fn lintelow_read_string(s: &[u8], at: usize, block: &mut [u8]) -> u64
     ensures number { λ r. ⌜ r ≡ numberOf (now (block .entry)) (answerAs (stringRead (readText (now (s .entry)) at))) ⌝ }
     ensures block { λ r. ⌜ now (block .exit) ≡ blockAfter (now (block .entry)) (answerAs (stringRead (readText (now (s .entry)) at))) ⌝ }
+    ensures held { λ r. ⌜ Held (now (s .entry)) ⌝ }
 {
     let c = Cursor { at };
     let r = c.read_string(s);
@@ -82,6 +85,7 @@ pub extern "C" fn lintelow_read_string_set(
     ensures number { λ r. ⌜ r ≡ setCalled (now (s .entry)) at (now (entries .entry)) (now (block .entry)) .number ⌝ }
     ensures block { λ r. ⌜ now (block .exit) ≡ setCalled (now (s .entry)) at (now (entries .entry)) (now (block .entry)) .block ⌝ }
     ensures entries { λ r. ⌜ now (entries .exit) ≡ setCalled (now (s .entry)) at (now (entries .entry)) (now (block .entry)) .room ⌝ }
+    ensures held { λ r. ⌜ Held (now (s .entry)) ⌝ }
 {
     if block.len() < lintelow_answers::BLOCK {
         return layouts::OUTPUT_FULL;

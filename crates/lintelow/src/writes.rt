@@ -1,5 +1,7 @@
 // The writers: the output at the start of `out`; its length is both the end and the length reported.
 ghost use mathlib.Core.Path.{_≡_};
+ghost use Prim.Native.Nat.{_<_};
+ghost use lib.ListN.{length};
 ghost use Rattle.layouts.specs.Primitive.{littleEnd, numberBytes};
 ghost use Rattle.layouts.specs.Judge.{lentAfter};
 ghost use Rattle.layouts.specs.Writers.{writing, stringBytes, framedBytes, modeText, pathsText, overridesText, writeString};
@@ -71,6 +73,7 @@ pub extern "C" fn lintelow_write_string_set(
     ensures number { λ r. ⌜ r ≡ setWritten (now (bytes .entry)) (now (entries .entry)) count (now (out .entry)) (now (block .entry)) .number ⌝ }
     ensures block { λ r. ⌜ now (block .exit) ≡ setWritten (now (bytes .entry)) (now (entries .entry)) count (now (out .entry)) (now (block .entry)) .block ⌝ }
     ensures out { λ r. ⌜ now (out .exit) ≡ setWritten (now (bytes .entry)) (now (entries .entry)) count (now (out .entry)) (now (block .entry)) .room ⌝ }
+    ensures size { λ r. ⌜ length (now (out .entry)) < 9223372036854775808 ⌝ }
 {
     if block.len() < lintelow_answers::BLOCK {
         return layouts::OUTPUT_FULL;

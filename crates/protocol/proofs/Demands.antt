@@ -1,5 +1,5 @@
 -- The demands, of what the public calls return: each theorem is about `Post`, the contract as Rattle reads it off the source.
-use Prim.Native.Nat.{ℕ, _+_, _*_, _/_, _≤_}
+use Prim.Native.Nat.{ℕ, _*_, _/_, _≤_, _<_}
 use mathlib.Core.Path.{_≡_, sym, _∙_, ap}
 use mathlib.Core.List.{List, _++_}
 use native.Mathlib.Omega.{arith}
@@ -7,22 +7,24 @@ use lib.ListN.{length, drop}
 use contract.Lifetimes.{Lfts}
 use borrow.Fn.Kinds.{Dens, endedOf}
 use denote.Triple.Clauses.{AtExit}
-use denote.Ref.{now}
+use denote.Ref.{RefT, now}
 use Rattle.layouts.specs.declared.Record.{Record}
 use Rattle.layouts.specs.declared.Refusal.{Refusal}
 use Rattle.layouts.specs.Primitive.{Version, version, Result, ok, refused}
 use Rattle.layouts.specs.Shape.{Tree}
-use Rattle.layouts.specs.Pieces.{Pieces, run, totalOf}
-use Rattle.layouts.specs.Record.{blank, recordOf}
-use Rattle.layouts.specs.Judge.{judgeOf, entriesOf, payloadOf}
+use Rattle.layouts.specs.Pieces.{Pieces, run, skipOf, totalOf}
+use Rattle.layouts.specs.Record.{blank}
+use Rattle.layouts.specs.Judge.{judgeOf, entriesOf, payloadOf, lentAfter}
+use Rattle.layouts.specs.Writers.{entryStart, entryLength, viewOf}
 use Rattle.layouts.specs.Soft.{Softened, keptOf, unlessBad}
 use Rattle.layouts.specs.Operations.{Kinds}
-use Rattle.layouts.specs.Calls.{Answer, argumentsKinds, replyKinds, argumentsTree, replyTree, readOf, readOpArgs, readDaemonResult, skipDaemonResult}
-use Rattle.layouts.specs.Demands.{meaningOf}
-use Rattle.layouts.proofs.Judge.{judge-read, record-room, entries-length, payload-length}
+use Rattle.layouts.specs.Calls.{Answer, answered, argumentsKinds, replyKinds, argumentsTree, replyTree, readOf, readOpArgs, readDaemonResult, skipDaemonResult}
+use Rattle.layouts.specs.Demands.{meaningOf, Untouched, Verdict}
+use Rattle.layouts.proofs.Judge.{judge-read, entries-length, payload-length, entries-counted, payload-counted}
 use Rattle.layouts.proofs.Placed.{run-placed}
 use Rattle.layouts.proofs.Soft.{soft-run}
-use Rattle.layouts.proofs.Calls.{answer-of, soft-skip-reply, soft-read-reply, soft-rest-reply}
+use Rattle.layouts.proofs.Theorems.{view-untouched, view-kept, unless-bad}
+use Rattle.layouts.proofs.Calls.{answer-of, soft-skip-reply, soft-read-reply, soft-rest-reply, soft-read-arguments, soft-rest-arguments}
 use Rattle.walk_judge.specs.declared.Answer as C
 use Rattle.walk_strings.specs.declared.Passed.{Passed}
 use Rattle.walk_strings.specs.declared.Passed.the-variants as S
@@ -38,132 +40,221 @@ use Rattle.protocol.proofs.read_daemon_result.Kinds as read-daemon-resu
 use Rattle.protocol.proofs.skip_daemon_result.Reads as skip-daemon-result
 use Rattle.protocol.proofs.skip_daemon_result.Kinds as skip-daemon-result-kinds
 
--- ---- demand 1: a refusal changes no lent memory; a success writes only what it reports
-abbrev foundIn : Result Answer → Record
-foundIn (ok x) = x .found
-foundIn (refused which place stream) = blank
+-- ---- the arguments of a call, by name: operation, version, stream; of a reader also the rooms that are lent for entries and payload
+abbrev pub Lent : Type 0 → Type 0
+Lent A = ℕ × (ℕ × (ℕ × (RefT (List ℕ) × A)))
+
+module _ {A : Type 0} where
+  abbrev pub opOf : Lent A → ℕ
+  opOf a = a .0
+
+  abbrev pub versionOf : Lent A → Version
+  versionOf a = version (a .1 .0) (a .1 .1 .0)
+
+  abbrev pub streamOf : Lent A → List ℕ
+  streamOf a = now (a .1 .1 .1 .0)
+
+  abbrev entriesAt : Lent (RefT (List ℕ) × A) → List ℕ
+  entriesAt a = now (a .1 .1 .1 .1 .0)
+
+  abbrev payloadAt : Lent (RefT (List ℕ) × (RefT (List ℕ) × A)) → List ℕ
+  payloadAt a = now (a .1 .1 .1 .1 .1 .0)
+
+  -- the pieces of the arguments, or of the reply, that stand in the stream
+  abbrev argumentsIn : Lent A → Pieces
+  argumentsIn a = run (argumentsTree (opOf a) (versionOf a)) (streamOf a) 0
+
+  abbrev pub replyIn : Lent A → Pieces
+  replyIn a = run (replyTree (opOf a) (versionOf a)) (streamOf a) 0
+
+-- the rooms at exit
+module _ {A B C D E : Type 0} where
+  abbrev entriesAfter : A × (B × (C × (D × (RefT (List ℕ) × E)))) → List ℕ
+  entriesAfter x = now (x .1 .1 .1 .1 .0)
+
+  abbrev payloadAfter : A × (B × (C × (D × (RefT (List ℕ) × (RefT (List ℕ) × E))))) → List ℕ
+  payloadAfter x = now (x .1 .1 .1 .1 .1 .0)
+
+-- ---- laws of any tree
+abbrev endsIn : Result Answer → ℕ
+endsIn (ok x) = x .ends
+endsIn (refused which place stream) = 0
+
+abbrev entriesIn : Result Answer → ℕ
+entriesIn (ok x) = x .found .entries
+entriesIn (refused which place stream) = 0
+
+abbrev payloadIn : Result Answer → ℕ
+payloadIn (ok x) = x .found .payload
+payloadIn (refused which place stream) = 0
 
 module _ (v : Version) (k : Kinds) (slots room : ℕ) (s : List ℕ) (t : Tree) (x : Answer) (e : readOf v k slots room s t ≡ ok x) where
-  holds : x .found ≡ recordOf blank (run t s 0)
-  holds =
-      let y = answer-of v k (judgeOf s slots room blank (run t s 0)) x e in
-      sym (ap foundIn (y .2)) ∙ judge-read s slots room blank (run t s 0) (y .0) (y .1) .holds
-
-  counted : length (entriesOf (run t s 0)) ≡ 2 * x .found .entries
+  -- an answer reports as many entries and as many bytes of payload as are kept
+  pub counted : length (entriesOf (run t s 0)) ≡ 2 * x .found .entries
   counted =
-      let l = entries-length (run t s 0) in
-      let q : x .found .entries ≡ 0 + keptOf (run t s 0) = ap (λ (r : Record). r .entries) holds ∙ record-room blank (run t s 0) .0 in
+      let y = answer-of v k (judgeOf s slots room blank (run t s 0)) x e in
+      let q : y .0 .found .entries ≡ x .found .entries = ap entriesIn (y .2) in
+      let c = entries-counted s slots room blank (run t s 0) (y .0) (y .1) (omega arith) in
       omega arith
 
-  totalled : length (payloadOf s (run t s 0)) ≡ x .found .payload
+  pub totalled : length (payloadOf s (run t s 0)) ≡ x .found .payload
   totalled =
-      let l = payload-length s (run-placed t s 0 (omega arith)) in
-      let q : x .found .payload ≡ 0 + totalOf (run t s 0) = ap (λ (r : Record). r .payload) holds ∙ record-room blank (run t s 0) .1 in
-      omega arith
+      let y = answer-of v k (judgeOf s slots room blank (run t s 0)) x e in
+      payload-counted s slots room blank (run t s 0) (y .0) (y .1) (omega arith) (payload-length s (run-placed t s 0 (omega arith))) ∙ ap payloadIn (y .2)
 
-module _ (κs : Lfts 3) (a : Dens κs read-op-args-kinds.ps) (r : C.Answer) (x : AtExit (endedOf 3 read-op-args-kinds.ps read-op-args-kinds.r) κs) (p : read-op-args.Post κs a r x) where
-  abbrev argumentsSaid : Result Answer
-  argumentsSaid = readOpArgs (a .0) (version (a .1 .0) (a .1 .1 .0)) (now (a .1 .1 .1 .0)) (length (now (a .1 .1 .1 .1 .0)) / 2) (length (now (a .1 .1 .1 .1 .1 .0)))
+  -- and there was room for them
+  pub roomy : (x .found .entries ≤ slots) × (x .found .payload ≤ room)
+  roomy =
+      let y = answer-of v k (judgeOf s slots room blank (run t s 0)) x e in
+      let f = judge-read s slots room blank (run t s 0) (y .0) (y .1) .fits (omega arith) (omega arith) in
+      let n = entries-length (run t s 0) in
+      let m = payload-length s (run-placed t s 0 (omega arith)) in
+      let c = counted in
+      let d = totalled in
+      (omega (arith, f), omega (arith, f))
 
-  pub arguments-refused : (y : Refusal) → r .outcome ≡ Refused y
-      → (now (x .1 .1 .1 .1 .0) ≡ now (a .1 .1 .1 .1 .0)) × (now (x .1 .1 .1 .1 .1 .0) ≡ now (a .1 .1 .1 .1 .1 .0))
-  arguments-refused y f =
-      (refused-keeps r argumentsSaid (p .0) y f _ _ _ (p .1 .0), refused-keeps r argumentsSaid (p .0) y f _ _ _ (p .1 .1))
+  -- it is what the pieces mean, up to where skipping ends
+  means : (skipOf (run t s 0) ≡ ok (x .ends)) × (meaningOf v k (run t s 0) (x .ends) ≡ ok x)
+  means =
+      let y = answer-of v k (judgeOf s slots room blank (run t s 0)) x e in
+      let j = judge-read s slots room blank (run t s 0) (y .0) (y .1) in
+      let q : y .0 .ends ≡ x .ends = ap endsIn (y .2) in (
+        j .skips ∙ ap ok q,
+        ap (λ (n : ℕ). meaningOf v k (run t s 0) n) (sym q) ∙ ap (λ (r : Record). answered v k (ok (record { found = r; ends = y .0 .ends }))) (sym (j .holds)) ∙ y .2,
+      )
 
-  pub arguments-written : r .outcome ≡ Fine
-      → (drop (2 * r .found .entries) (now (x .1 .1 .1 .1 .0)) ≡ drop (2 * r .found .entries) (now (a .1 .1 .1 .1 .0))) ×
-      (drop (r .found .payload) (now (x .1 .1 .1 .1 .1 .0)) ≡ drop (r .found .payload) (now (a .1 .1 .1 .1 .1 .0)))
+-- the two rooms of a read, before and after it
+module _ (v : Version) (k : Kinds) (slots room : ℕ) (s : List ℕ) (t : Tree) (r : C.Answer) (p : r ≡ answerAs (readOf v k slots room s t)) (es es' ps ps' : List ℕ)
+    (e : es' ≡ lentAfter (readOf v k slots room s t) (entriesOf (run t s 0)) es) (q : ps' ≡ lentAfter (readOf v k slots room s t) (payloadOf s (run t s 0)) ps) where
+  refused-read : (y : Refusal) → r .outcome ≡ Refused y → (es' ≡ es) × (ps' ≡ ps)
+  refused-read y f = (refused-keeps r (readOf v k slots room s t) p y f _ _ _ e, refused-keeps r (readOf v k slots room s t) p y f _ _ _ q)
+
+  written-read : r .outcome ≡ Fine
+      → (drop (2 * r .found .entries) es' ≡ drop (2 * r .found .entries) es) × (drop (r .found .payload) ps' ≡ drop (r .found .payload) ps)
+  written-read f =
+      let o = readOf v k slots room s t in
+      let g = answer-fine r o p f in (
+        beyond (2 * r .found .entries) (entriesOf (run t s 0)) es es' (counted v k slots room s t _ g) (fine-reports r o p f _ _ _ e),
+        beyond (r .found .payload) (payloadOf s (run t s 0)) ps ps' (totalled v k slots room s t _ g) (fine-reports r o p f _ _ _ q),
+      )
+
+-- ---- demand 1
+module _ (κs : Lfts 3) (a : Dens κs read-op-args-kinds.ps) (r : C.Answer) (x : AtExit (endedOf 3 read-op-args-kinds.ps read-op-args-kinds.r) κs)
+    (p : read-op-args.Post κs a r x) where
+  -- a refusal changes no lent memory
+  pub arguments-refused : (y : Refusal) → r .outcome ≡ Refused y → (entriesAfter x ≡ entriesAt a) × (payloadAfter x ≡ payloadAt a)
   unfolding readOpArgs
-  arguments-written f =
-      let v = version (a .1 .0) (a .1 .1 .0) in
-      let k = argumentsKinds (a .0) in
-      let e = answer-fine r argumentsSaid (p .0) f in
-      let s = now (a .1 .1 .1 .0) in (
-        beyond (2 * r .found .entries) (entriesOf (run (argumentsTree (a .0) v) s 0)) _ _ (counted v k _ _ s (argumentsTree (a .0) v) _ e) (fine-reports r argumentsSaid (p .0) f _ _ _ (p .1 .0)),
-        beyond (r .found .payload) (payloadOf s (run (argumentsTree (a .0) v) s 0)) _ _ (totalled v k _ _ s (argumentsTree (a .0) v) _ e) (fine-reports r argumentsSaid (p .0) f _ _ _ (p .1 .1)),
-      )
+  arguments-refused = refused-read (versionOf a) (argumentsKinds (opOf a)) _ _ (streamOf a) (argumentsTree (opOf a) (versionOf a)) r (p .0) _ _ _ _ (p .1 .0) (p .1 .1)
 
-module _ (κs : Lfts 3) (a : Dens κs read-daemon-result-kinds.ps) (r : C.Answer) (x : AtExit (endedOf 3 read-daemon-result-kinds.ps read-daemon-result-kinds.r) κs) (p : read-daemon-result.Post κs a r x) where
-  abbrev replySaid : Result Answer
-  replySaid = readDaemonResult (a .0) (version (a .1 .0) (a .1 .1 .0)) (now (a .1 .1 .1 .0)) (length (now (a .1 .1 .1 .1 .0)) / 2) (length (now (a .1 .1 .1 .1 .1 .0)))
+  -- a success writes only what it reports
+  pub arguments-written : r .outcome ≡ Fine
+      → (drop (2 * r .found .entries) (entriesAfter x) ≡ drop (2 * r .found .entries) (entriesAt a)) ×
+      (drop (r .found .payload) (payloadAfter x) ≡ drop (r .found .payload) (payloadAt a))
+  unfolding readOpArgs
+  arguments-written = written-read (versionOf a) (argumentsKinds (opOf a)) _ _ (streamOf a) (argumentsTree (opOf a) (versionOf a)) r (p .0) _ _ _ _ (p .1 .0) (p .1 .1)
 
-  pub reply-refused : (y : Refusal) → r .outcome ≡ Refused y
-      → (now (x .1 .1 .1 .1 .0) ≡ now (a .1 .1 .1 .1 .0)) × (now (x .1 .1 .1 .1 .1 .0) ≡ now (a .1 .1 .1 .1 .1 .0))
-  reply-refused y f =
-      (refused-keeps r replySaid (p .0) y f _ _ _ (p .1 .0), refused-keeps r replySaid (p .0) y f _ _ _ (p .1 .1))
-
-  pub reply-written : r .outcome ≡ Fine
-      → (drop (2 * r .found .entries) (now (x .1 .1 .1 .1 .0)) ≡ drop (2 * r .found .entries) (now (a .1 .1 .1 .1 .0))) ×
-      (drop (r .found .payload) (now (x .1 .1 .1 .1 .1 .0)) ≡ drop (r .found .payload) (now (a .1 .1 .1 .1 .1 .0)))
+module _ (κs : Lfts 3) (a : Dens κs read-daemon-result-kinds.ps) (r : C.Answer) (x : AtExit (endedOf 3 read-daemon-result-kinds.ps read-daemon-result-kinds.r) κs)
+    (p : read-daemon-result.Post κs a r x) where
+  -- a refusal changes no lent memory
+  pub reply-refused : (y : Refusal) → r .outcome ≡ Refused y → (entriesAfter x ≡ entriesAt a) × (payloadAfter x ≡ payloadAt a)
   unfolding readDaemonResult
-  reply-written f =
-      let v = version (a .1 .0) (a .1 .1 .0) in
-      let k = replyKinds (a .0) in
-      let e = answer-fine r replySaid (p .0) f in
-      let s = now (a .1 .1 .1 .0) in (
-        beyond (2 * r .found .entries) (entriesOf (run (replyTree (a .0) v) s 0)) _ _ (counted v k _ _ s (replyTree (a .0) v) _ e) (fine-reports r replySaid (p .0) f _ _ _ (p .1 .0)),
-        beyond (r .found .payload) (payloadOf s (run (replyTree (a .0) v) s 0)) _ _ (totalled v k _ _ s (replyTree (a .0) v) _ e) (fine-reports r replySaid (p .0) f _ _ _ (p .1 .1)),
-      )
+  reply-refused = refused-read (versionOf a) (replyKinds (opOf a)) _ _ (streamOf a) (replyTree (opOf a) (versionOf a)) r (p .0) _ _ _ _ (p .1 .0) (p .1 .1)
+
+  -- a success writes only what it reports
+  pub reply-written : r .outcome ≡ Fine
+      → (drop (2 * r .found .entries) (entriesAfter x) ≡ drop (2 * r .found .entries) (entriesAt a)) ×
+      (drop (r .found .payload) (payloadAfter x) ≡ drop (r .found .payload) (payloadAt a))
+  unfolding readDaemonResult
+  reply-written = written-read (versionOf a) (replyKinds (opOf a)) _ _ (streamOf a) (replyTree (opOf a) (versionOf a)) r (p .0) _ _ _ _ (p .1 .0) (p .1 .1)
 
 -- ---- demand 3: a reply s that the skipper passes, and s' that differs from it in contents, payload and padding only
--- the same operation and version
-abbrev Same : (op major minor op' major' minor' : ℕ) → Type 0
-Same op major minor op' major' minor' = (op' ≡ op) × (major' ≡ major) × (minor' ≡ minor)
-
-same-as : {A : Type 0} (f : ℕ → Version → A) {op major minor op' major' minor' : ℕ} → Same op major minor op' major' minor'
-    → f op' (version major' minor') ≡ f op (version major minor)
-same-as f {op} {major} {minor} {op'} {major'} {minor'} e =
-    ap (λ (n : ℕ). f n (version major' minor')) (e .0) ∙ ap (λ (n : ℕ). f op (version n minor')) (e .1) ∙ ap (λ (n : ℕ). f op (version major n)) (e .2)
+-- of the same operation and version
+pub same-as : {A : Type 0} (f : ℕ → Version → A) {op op' : ℕ} {v v' : Version} → op' ≡ op → v' ≡ v → f op' v' ≡ f op v
+same-as f {op} {op'} {v} {v'} e g = ap (λ (n : ℕ). f n v') e ∙ ap (f op) g
 
 module _ (κs : Lfts 1) (a : Dens κs skip-daemon-result-kinds.ps) (x : AtExit (endedOf 1 skip-daemon-result-kinds.ps skip-daemon-result-kinds.r) κs) (k : Passed)
     (p : skip-daemon-result.Post κs a k x) where
-  abbrev sentOp : ℕ
-  sentOp = a .0
-
-  abbrev sentVersion : Version
-  sentVersion = version (a .1 .0) (a .1 .1 .0)
-
-  abbrev sent : List ℕ
-  sent = now (a .1 .1 .1 .0)
-
-  abbrev sentPieces : Pieces
-  sentPieces = run (replyTree sentOp sentVersion) sent 0
-
   -- skipping s' ends where skipping s does, and is refused where it is
   pub soft-skipped : (κs′ : Lfts 1) (a′ : Dens κs′ skip-daemon-result-kinds.ps) (x′ : AtExit (endedOf 1 skip-daemon-result-kinds.ps skip-daemon-result-kinds.r) κs′) (k′ : Passed)
-      → skip-daemon-result.Post κs′ a′ k′ x′ → Same (a .0) (a .1 .0) (a .1 .1 .0) (a′ .0) (a′ .1 .0) (a′ .1 .1 .0) → Softened sentPieces sent (now (a′ .1 .1 .1 .0)) → k′ ≡ k
-  soft-skipped κs′ a′ x′ k′ q e soft =
-      let s' = now (a′ .1 .1 .1 .0) in
-      skipped-told k′ k (q ∙ same-as (λ op v. skipDaemonResult op v s') e ∙ soft-skip-reply sentOp sentVersion sent s' soft ∙ sym p)
+      → skip-daemon-result.Post κs′ a′ k′ x′ → opOf a′ ≡ opOf a → versionOf a′ ≡ versionOf a → Softened (replyIn a) (streamOf a) (streamOf a′) → k′ ≡ k
+  soft-skipped κs′ a′ x′ k′ q o v soft =
+      skipped-told k′ k (q ∙ same-as (λ op w. skipDaemonResult op w (streamOf a′)) o v ∙ soft-skip-reply (opOf a) (versionOf a) (streamOf a) (streamOf a′) soft ∙ sym p)
 
+  -- the reply was passed to its end, and s' is read
   module _ (ends : ℕ) (passed : k ≡ S.Past ends) (κs′ : Lfts 3) (a′ : Dens κs′ read-daemon-result-kinds.ps)
       (x′ : AtExit (endedOf 3 read-daemon-result-kinds.ps read-daemon-result-kinds.r) κs′) (r : C.Answer) (q : read-daemon-result.Post κs′ a′ r x′)
-      (e : Same (a .0) (a .1 .0) (a .1 .1 .0) (a′ .0) (a′ .1 .0) (a′ .1 .1 .0)) (soft : Softened sentPieces sent (now (a′ .1 .1 .1 .0))) where
-    abbrev changed : List ℕ
-    changed = now (a′ .1 .1 .1 .0)
-
-    skips : skipDaemonResult sentOp sentVersion sent ≡ ok ends
+      (o : opOf a′ ≡ opOf a) (v : versionOf a′ ≡ versionOf a) (soft : Softened (replyIn a) (streamOf a) (streamOf a′)) where
+    skips : skipDaemonResult (opOf a) (versionOf a) (streamOf a) ≡ ok ends
     skips = sym p ∙ ap skipped passed
 
     -- what follows the reply is as before, so every call on it answers as before
-    pub soft-followed : drop ends changed ≡ drop ends sent
-    soft-followed = soft-rest-reply sentOp sentVersion sent changed soft ends skips
+    pub soft-followed : drop ends (streamOf a′) ≡ drop ends (streamOf a)
+    soft-followed = soft-rest-reply (opOf a) (versionOf a) (streamOf a) (streamOf a′) soft ends skips
 
-    module _ (slots : keptOf sentPieces ≤ length (now (a′ .1 .1 .1 .1 .0)) / 2) (room : totalOf sentPieces ≤ length (now (a′ .1 .1 .1 .1 .1 .0))) where
-      abbrev means : Result Answer
-      means = unlessBad changed sentPieces (meaningOf sentVersion (replyKinds sentOp) sentPieces ends)
+    -- string number i of any entries is as before where none of its bytes was changed
+    pub soft-viewed : (es : List ℕ) (i : ℕ) → Untouched (streamOf a) (streamOf a′) (entryStart es i) (entryLength es i) → viewOf (streamOf a′) es i ≡ viewOf (streamOf a) es i
+    soft-viewed = view-untouched (streamOf a) (streamOf a′) (soft .size)
+
+    -- with room for all its entries and payload
+    module _ (slots : keptOf (replyIn a) ≤ length (entriesAt a′) / 2) (room : totalOf (replyIn a) ≤ length (payloadAt a′)) where
+      abbrev meaning : Result Answer
+      meaning = meaningOf (versionOf a) (replyKinds (opOf a)) (replyIn a) ends
 
       -- reading s' ends there too, with what the bytes of s mean, or is refused by 3 at the first string that is no text
-      pub soft-answered : r ≡ answerAs means
+      pub soft-answered : r ≡ answerAs (unlessBad (streamOf a′) (replyIn a) meaning)
       soft-answered =
-          let n = length (now (a′ .1 .1 .1 .1 .0)) / 2 in
-          let m = length (now (a′ .1 .1 .1 .1 .1 .0)) in
-          q .0 ∙ ap answerAs (same-as (λ op v. readDaemonResult op v changed n m) e ∙ soft-read-reply sentOp sentVersion sent changed soft n m ends skips slots room)
+          let n = length (entriesAt a′) / 2 in
+          let m = length (payloadAt a′) in
+          q .0 ∙ ap answerAs (same-as (λ op w. readDaemonResult op w (streamOf a′) n m) o v ∙ soft-read-reply (opOf a) (versionOf a) (streamOf a) (streamOf a′) soft n m ends skips slots room)
+
+      -- in RFC 3629's words: every decoded string of s' is text, and the answer is what the bytes of s mean; or 3 at the first that is not
+      pub soft-judged : (said : Result Answer) × (r ≡ answerAs said) × Verdict (streamOf a′) (replyIn a) meaning said
+      soft-judged = (unlessBad (streamOf a′) (replyIn a) meaning, soft-answered, unless-bad (streamOf a′) (replyIn a) meaning)
 
       -- and its entries are those of s
-      pub soft-kept : r .outcome ≡ Fine → now (x′ .1 .1 .1 .1 .0) ≡ entriesOf sentPieces ++ drop (length (entriesOf sentPieces)) (now (a′ .1 .1 .1 .1 .0))
+      pub soft-kept : r .outcome ≡ Fine → entriesAfter x′ ≡ entriesOf (replyIn a) ++ drop (length (entriesOf (replyIn a))) (entriesAt a′)
       soft-kept f =
-          let same : run (replyTree (a′ .0) (version (a′ .1 .0) (a′ .1 .1 .0))) changed 0 ≡ sentPieces =
-          same-as (λ op v. run (replyTree op v) changed 0) e ∙ soft-run (replyTree sentOp sentVersion) sent changed soft in
-          fine-reports r (replySaid κs′ a′ r x′ q) (q .0) f _ _ _ (q .1 .0) ∙
-          ap (λ (y : Pieces). entriesOf y ++ drop (length (entriesOf y)) (now (a′ .1 .1 .1 .1 .0))) same
+          let same : run (replyTree (opOf a′) (versionOf a′)) (streamOf a′) 0 ≡ replyIn a =
+          same-as (λ op w. run (replyTree op w) (streamOf a′) 0) o v ∙ soft-run (replyTree (opOf a) (versionOf a)) (streamOf a) (streamOf a′) soft in
+          fine-reports r (readDaemonResult (opOf a′) (versionOf a′) (streamOf a′) (length (entriesAt a′) / 2) (length (payloadAt a′))) (q .0) f _ _ _ (q .1 .0) ∙
+          ap (λ (y : Pieces). entriesOf y ++ drop (length (entriesOf y)) (entriesAt a′)) same
+
+      -- string number i that it keeps is the one that s has there, where none of its bytes was changed
+      pub soft-string : r .outcome ≡ Fine → (i : ℕ) → i < keptOf (replyIn a)
+          → Untouched (streamOf a) (streamOf a′) (entryStart (entriesOf (replyIn a)) i) (entryLength (entriesOf (replyIn a)) i)
+          → viewOf (streamOf a′) (entriesAfter x′) i ≡ viewOf (streamOf a) (entriesOf (replyIn a)) i
+      soft-string f i h u =
+          let l = entries-length (replyIn a) in
+          ap (λ (es : List ℕ). viewOf (streamOf a′) es i) (soft-kept f)
+          ∙ view-kept (streamOf a) (streamOf a′) (soft .size) (entriesOf (replyIn a)) _ i (omega arith) u
+
+-- ---- the same for arguments s that were read, and s'
+module _ (κs : Lfts 3) (a : Dens κs read-op-args-kinds.ps) (r : C.Answer) (x : AtExit (endedOf 3 read-op-args-kinds.ps read-op-args-kinds.r) κs)
+    (p : read-op-args.Post κs a r x) (fine : r .outcome ≡ Fine) (κs′ : Lfts 3) (a′ : Dens κs′ read-op-args-kinds.ps) (r′ : C.Answer)
+    (x′ : AtExit (endedOf 3 read-op-args-kinds.ps read-op-args-kinds.r) κs′) (q : read-op-args.Post κs′ a′ r′ x′) (o : opOf a′ ≡ opOf a) (v : versionOf a′ ≡ versionOf a)
+    (soft : Softened (argumentsIn a) (streamOf a) (streamOf a′)) where
+  -- what was said of s
+  abbrev before : Answer
+  before = record { kind = r .kind; ends = r .ends; ends2 = r .ends2; found = r .found }
+
+  meant : (skipOf (argumentsIn a) ≡ ok (r .ends)) × (meaningOf (versionOf a) (argumentsKinds (opOf a)) (argumentsIn a) (r .ends) ≡ ok before)
+  unfolding readOpArgs
+  meant =
+      let o = readOpArgs (opOf a) (versionOf a) (streamOf a) (length (entriesAt a) / 2) (length (payloadAt a)) in
+      means (versionOf a) (argumentsKinds (opOf a)) _ _ (streamOf a) (argumentsTree (opOf a) (versionOf a)) before (answer-fine r o (p .0) fine)
+
+  -- what follows the arguments is as before
+  pub soft-followed-arguments : drop (r .ends) (streamOf a′) ≡ drop (r .ends) (streamOf a)
+  soft-followed-arguments = soft-rest-arguments (opOf a) (versionOf a) (streamOf a) (streamOf a′) soft (r .ends) (meant .0)
+
+  -- with room for all: every decoded string of s' is text, and the answer is as before; or 3 at the first that is not
+  pub soft-judged-arguments : keptOf (argumentsIn a) ≤ length (entriesAt a′) / 2 → totalOf (argumentsIn a) ≤ length (payloadAt a′)
+      → (said : Result Answer) × (r′ ≡ answerAs said) × Verdict (streamOf a′) (argumentsIn a) (ok before) said
+  soft-judged-arguments slots room =
+      let n = length (entriesAt a′) / 2 in
+      let m = length (payloadAt a′) in (
+        unlessBad (streamOf a′) (argumentsIn a) (ok before),
+        q .0 ∙ ap answerAs (same-as (λ op w. readOpArgs op w (streamOf a′) n m) o v
+            ∙ soft-read-arguments (opOf a) (versionOf a) (streamOf a) (streamOf a′) soft n m (r .ends) (meant .0) slots room ∙ ap (unlessBad (streamOf a′) (argumentsIn a)) (meant .1)),
+        unless-bad (streamOf a′) (argumentsIn a) (ok before),
+      )

@@ -111,7 +111,7 @@ module _ (s : List ℕ) (slots : ℕ) (y : Answer) where
   error-fits (ok x) e = fits-by (eqb (x .code) Error) x e
   error-fits (refused which place stream) e = absurd (never-both e)
 
-with-error-fits : (s : List ℕ) (slots : ℕ) (y : Answer) → readStderrWithError s slots ≡ ok y → length (entriesOf (errorPieces s (stderrLoop s))) ≤ 2 * slots
+pub with-error-fits : (s : List ℕ) (slots : ℕ) (y : Answer) → readStderrWithError s slots ≡ ok y → length (entriesOf (errorPieces s (stderrLoop s))) ≤ 2 * slots
 unfolding readStderrWithError
 with-error-fits s slots y e = error-fits s slots y (stderrLoop s) e
 

@@ -1,8 +1,7 @@
--- Demand 1, of what `read_stderr_with_error` returns: a refusal changes no lent memory, and a success writes only what it reports. Each theorem is about
--- `Post`, the contract as Rattle reads it off the source.
-use Prim.Native.Nat.{ℕ, _+_, _*_, _/_}
-use mathlib.Core.Path.{_≡_, refl, _∙_, ap}
-use mathlib.Core.List.{List}
+-- The demands, of what the calls on the stderr loop return. Each theorem is about `Post`, the contract as Rattle reads it off the source.
+use Prim.Native.Nat.{ℕ, _*_, _/_, _≤_, _<_}
+use mathlib.Core.Path.{_≡_, refl, sym, _∙_, ap}
+use mathlib.Core.List.{List, _++_}
 use mathlib.Core.Bool.{Bool, true, false}
 use native.Mathlib.Omega.{arith}
 use lib.ListN.{length, drop}
@@ -10,62 +9,171 @@ use lib.Dec.{eqb}
 use contract.Lifetimes.{Lfts}
 use borrow.Fn.Kinds.{Dens, endedOf}
 use denote.Triple.Clauses.{AtExit}
-use denote.Ref.{now}
+use denote.Ref.{RefT, now}
 use Rattle.layouts.specs.declared.Refusal.{Refusal}
 use Rattle.layouts.specs.declared.Record.{Record}
 use Rattle.layouts.specs.Primitive.{pick, Result, ok, refused, onward}
-use Rattle.layouts.specs.Pieces.{run, end}
+use Rattle.layouts.specs.Pieces.{Pieces, run, end, skipOf}
+use Rattle.layouts.specs.Record.{recordOf}
 use Rattle.layouts.specs.Judge.{Ended, judgeOf, entriesOf}
+use Rattle.layouts.specs.Writers.{entryStart, entryLength, viewOf}
 use Rattle.layouts.specs.Calls as L
-use Rattle.layouts.specs.Stderr.{Error, Stopped, stoppedRecord, stderrLoop, stderrAnswer, ifError, errorBlock, errorPieces, readStderrWithError}
+use Rattle.layouts.specs.Stderr.{Error, Stopped, stoppedRecord, stderrLoop, stderrAnswer, readStderrLoop, ifError, errorBlock, errorPieces, readStderrWithError}
+use Rattle.layouts.specs.Soft.{keptOf, unlessBad, SoftenedStderr, SoftenedError}
+use Rattle.layouts.specs.Demands.{Untouched, Verdict}
 use Rattle.layouts.proofs.Judge.{judge-read, record-room, entries-length}
 use Rattle.layouts.proofs.Placed.{never-both}
+use Rattle.layouts.proofs.Theorems.{view-kept, unless-bad}
+use Rattle.layouts.proofs.Stderr.{soft-stderr, soft-rest-stderr, soft-error-pieces, soft-read-error, soft-rest-error}
 use Rattle.walk_judge.specs.declared.Answer.{Answer}
 use Rattle.walk_judge.specs.declared.Outcome.the-variants.{Fine, Refused}
+use Rattle.walk_judge.specs.Judged.{answerAs}
 use Rattle.walk_judge.proofs.Answers.{answer-fine, refused-keeps, fine-reports, beyond}
+use Rattle.stderr.proofs.read_stderr_loop.Reads as read-stderr-loop
+use Rattle.stderr.proofs.read_stderr_loop.Kinds as read-stderr-loop-kinds
 use Rattle.stderr.proofs.read_stderr_with_error.Reads as read-stderr-with-error
 use Rattle.stderr.proofs.read_stderr_with_error.Kinds as read-stderr-with-error-kinds
+
+-- ---- the arguments of a call, by name: the stream, and the room that is lent for entries; that room at exit
+module _ {A B : Type 0} where
+  abbrev entriesAfter : B × (RefT (List ℕ) × A) → List ℕ
+  entriesAfter x = now (x .1 .0)
+
+module _ {A : Type 0} where
+  abbrev streamOf : RefT (List ℕ) × A → List ℕ
+  streamOf a = now (a .0)
+
+  abbrev entriesAt : RefT (List ℕ) × (RefT (List ℕ) × A) → List ℕ
+  entriesAt a = now (a .1 .0)
+
+  -- the pieces of the error block that stands in the stream, if one does
+  abbrev blockIn : RefT (List ℕ) × A → Pieces
+  blockIn a = errorPieces (streamOf a) (stderrLoop (streamOf a))
+
+-- what was said where all was fine
+abbrev saidBy : Answer → L.Answer
+saidBy r = record { kind = r .kind; ends = r .ends; ends2 = r .ends2; found = r .found }
+
+-- ---- an answer is what the loop and the pieces of the block mean, up to where they end
+abbrev endsIn : Result L.Answer → ℕ
+endsIn (ok x) = x .ends
+endsIn (refused which place stream) = 0
 
 abbrev entriesIn : Result L.Answer → ℕ
 entriesIn (ok x) = x .found .entries
 entriesIn (refused which place stream) = 0
 
--- every entry of the error block is counted
+loop-meant : (o : Result Stopped) (y : L.Answer) → onward o (λ x. stderrAnswer (x .ends) (stoppedRecord x)) ≡ ok y → (x : Stopped) × (o ≡ ok x) × (x .ends ≡ y .ends)
+loop-meant (ok x) y e = (x, refl, ap endsIn e)
+loop-meant (refused which place stream) y e = absurd (never-both e)
+
+abbrev Meant : L.Answer → Stopped → Pieces → Type 0
+Meant y x p = (skipOf p ≡ ok (y .ends)) × (stderrAnswer (y .ends) (recordOf (stoppedRecord x) p) ≡ ok y)
+
 module _ (s : List ℕ) (slots : ℕ) (y : L.Answer) where
-  block-counted : (x : Stopped) (o : Result Ended) → judgeOf s slots 0 (stoppedRecord x) (run errorBlock s (x .ends)) ≡ o
-      → onward o (λ e. stderrAnswer (e .ends) (e .found)) ≡ ok y → length (entriesOf (run errorBlock s (x .ends))) ≡ 2 * y .found .entries
-  block-counted x (ok z) q e =
-      let r = stoppedRecord x in
-      let h : z .found .entries ≡ 0 + _ = ap (λ (r : Record). r .entries) (judge-read s slots 0 r (run errorBlock s (x .ends)) z q .holds) ∙ record-room r (run errorBlock s (x .ends)) .0 in
-      let k : z .found .entries ≡ y .found .entries = ap entriesIn e in
-      let l = entries-length (run errorBlock s (x .ends)) in
-      omega arith
-  block-counted x (refused which place stream) q e = absurd (never-both e)
+  block-meant : (x : Stopped) (o : Result Ended) → judgeOf s slots 0 (stoppedRecord x) (run errorBlock s (x .ends)) ≡ o
+      → onward o (λ e. stderrAnswer (e .ends) (e .found)) ≡ ok y → Meant y x (run errorBlock s (x .ends))
+  block-meant x (ok z) q e =
+      let j = judge-read s slots 0 (stoppedRecord x) (run errorBlock s (x .ends)) z q in
+      let h : z .ends ≡ y .ends = ap endsIn e in
+      (j .skips ∙ ap ok h, ap (λ (r : Record). stderrAnswer (y .ends) r) (sym (j .holds)) ∙ ap (λ (n : ℕ). stderrAnswer n (z .found)) (sym h) ∙ e)
+  block-meant x (refused which place stream) q e = absurd (never-both e)
 
   by-error : (b : Bool) (x : Stopped) → ifError b x (λ u. judgeOf s slots 0 (stoppedRecord x) (run errorBlock s (x .ends))) ≡ ok y
-      → length (entriesOf (pick b (run errorBlock s (x .ends)) (end (x .ends)))) ≡ 2 * y .found .entries
-  unfolding entriesOf
-  by-error true x e = block-counted x _ refl e
-  by-error false x e = let k : 0 ≡ y .found .entries = ap entriesIn e in omega arith
+      → Meant y x (pick b (run errorBlock s (x .ends)) (end (x .ends)))
+  unfolding skipOf recordOf
+  by-error true x e = block-meant x _ refl e
+  by-error false x e = let h : x .ends ≡ y .ends = ap endsIn e in (ap ok h, ap (λ (n : ℕ). stderrAnswer n (stoppedRecord x)) (sym h) ∙ e)
 
-  error-counted : (o : Result Stopped) → onward o (λ x. ifError (eqb (x .code) Error) x (λ u. judgeOf s slots 0 (stoppedRecord x) (run errorBlock s (x .ends)))) ≡ ok y
-      → length (entriesOf (errorPieces s o)) ≡ 2 * y .found .entries
+  on-stop : (o : Result Stopped) → onward o (λ x. ifError (eqb (x .code) Error) x (λ u. judgeOf s slots 0 (stoppedRecord x) (run errorBlock s (x .ends)))) ≡ ok y
+      → (x : Stopped) × (o ≡ ok x) × Meant y x (errorPieces s o)
   unfolding errorPieces
-  error-counted (ok x) e = by-error (eqb (x .code) Error) x e
-  error-counted (refused which place stream) e = absurd (never-both e)
+  on-stop (ok x) e = (x, refl, by-error (eqb (x .code) Error) x e)
+  on-stop (refused which place stream) e = absurd (never-both e)
 
+  error-meant : readStderrWithError s slots ≡ ok y → (x : Stopped) × (stderrLoop s ≡ ok x) × Meant y x (errorPieces s (stderrLoop s))
+  unfolding readStderrWithError
+  error-meant e = on-stop (stderrLoop s) e
+
+  -- every entry of the error block is counted
+  pub error-counted : readStderrWithError s slots ≡ ok y → length (entriesOf (errorPieces s (stderrLoop s))) ≡ 2 * y .found .entries
+  error-counted e =
+      let p = errorPieces s (stderrLoop s) in
+      let m = error-meant e in
+      let k : recordOf (stoppedRecord (m .0)) p .entries ≡ y .found .entries = ap entriesIn (m .2 .1) in
+      let h = record-room (stoppedRecord (m .0)) p .0 in
+      let l = entries-length p in
+      omega arith
+
+-- ---- demand 1
 module _ (κs : Lfts 2) (a : Dens κs read-stderr-with-error-kinds.ps) (r : Answer) (x : AtExit (endedOf 2 read-stderr-with-error-kinds.ps read-stderr-with-error-kinds.r) κs)
     (p : read-stderr-with-error.Post κs a r x) where
   abbrev stderrSaid : Result L.Answer
-  stderrSaid = readStderrWithError (now (a .0)) (length (now (a .1 .0)) / 2)
+  stderrSaid = readStderrWithError (streamOf a) (length (entriesAt a) / 2)
 
-  pub stderr-refused : (y : Refusal) → r .outcome ≡ Refused y → now (x .1 .0) ≡ now (a .1 .0)
+  -- a refusal changes no lent memory
+  pub stderr-refused : (y : Refusal) → r .outcome ≡ Refused y → entriesAfter x ≡ entriesAt a
   stderr-refused y f = refused-keeps r stderrSaid (p .0) y f _ _ _ (p .1)
 
-  pub stderr-written : r .outcome ≡ Fine → drop (2 * r .found .entries) (now (x .1 .0)) ≡ drop (2 * r .found .entries) (now (a .1 .0))
-  unfolding readStderrWithError
+  -- a success writes only what it reports
+  pub stderr-written : r .outcome ≡ Fine → drop (2 * r .found .entries) (entriesAfter x) ≡ drop (2 * r .found .entries) (entriesAt a)
   stderr-written f =
-      let s = now (a .0) in
-      beyond (2 * r .found .entries) (entriesOf (errorPieces s (stderrLoop s))) _ _
-      (error-counted s (length (now (a .1 .0)) / 2) _ (stderrLoop s) (answer-fine r stderrSaid (p .0) f))
+      beyond (2 * r .found .entries) (entriesOf (blockIn a)) _ _
+      (error-counted (streamOf a) (length (entriesAt a) / 2) _ (answer-fine r stderrSaid (p .0) f))
       (fine-reports r stderrSaid (p .0) f _ _ _ (p .1))
+
+-- ---- demand 3 for the loop on s, and on s' that differs from it in contents and padding of messages only
+module _ (κs : Lfts 1) (a : Dens κs read-stderr-loop-kinds.ps) (r : Answer) (x : AtExit (endedOf 1 read-stderr-loop-kinds.ps read-stderr-loop-kinds.r) κs)
+    (p : read-stderr-loop.Post κs a r x) (κs′ : Lfts 1) (a′ : Dens κs′ read-stderr-loop-kinds.ps) (r′ : Answer)
+    (x′ : AtExit (endedOf 1 read-stderr-loop-kinds.ps read-stderr-loop-kinds.r) κs′) (q : read-stderr-loop.Post κs′ a′ r′ x′)
+    (soft : SoftenedStderr (streamOf a) (streamOf a′)) where
+  -- it answers as before: it decodes no string
+  pub soft-looped : r′ ≡ r
+  unfolding readStderrLoop
+  soft-looped =
+      q ∙ ap (λ (o : Result Stopped). answerAs (onward o (λ y. stderrAnswer (y .ends) (stoppedRecord y)))) (soft-stderr (streamOf a) (streamOf a′) soft) ∙ sym p
+
+  -- what follows is as before
+  pub soft-followed-loop : r .outcome ≡ Fine → drop (r .ends) (streamOf a′) ≡ drop (r .ends) (streamOf a)
+  unfolding readStderrLoop
+  soft-followed-loop f =
+      let m = loop-meant (stderrLoop (streamOf a)) (saidBy r) (answer-fine r (readStderrLoop (streamOf a)) p f) in
+      let w = soft-rest-stderr (streamOf a) (streamOf a′) soft (m .0) (m .1) in
+      rw (m .2) at w
+
+-- ---- demand 3 for the loop with the error block: s was read, and s' differs from it in contents and padding of messages and of the error block only
+module _ (κs : Lfts 2) (a : Dens κs read-stderr-with-error-kinds.ps) (r : Answer) (x : AtExit (endedOf 2 read-stderr-with-error-kinds.ps read-stderr-with-error-kinds.r) κs)
+    (p : read-stderr-with-error.Post κs a r x) (fine : r .outcome ≡ Fine) (κs′ : Lfts 2) (a′ : Dens κs′ read-stderr-with-error-kinds.ps) (r′ : Answer)
+    (x′ : AtExit (endedOf 2 read-stderr-with-error-kinds.ps read-stderr-with-error-kinds.r) κs′) (q : read-stderr-with-error.Post κs′ a′ r′ x′)
+    (soft : SoftenedError (streamOf a) (streamOf a′)) where
+  meant : (y : Stopped) × (stderrLoop (streamOf a) ≡ ok y) × Meant (saidBy r) y (blockIn a)
+  meant = error-meant (streamOf a) (length (entriesAt a) / 2) (saidBy r) (answer-fine r (stderrSaid κs a r x p) (p .0) fine)
+
+  -- what follows is as before
+  pub soft-followed-error : drop (r .ends) (streamOf a′) ≡ drop (r .ends) (streamOf a)
+  soft-followed-error = soft-rest-error (streamOf a) (streamOf a′) soft (meant .0) (meant .1) (r .ends) (meant .2 .0)
+
+  -- with room for its entries: every decoded string of s' is text, and the answer is as before; or 3 at the first that is not
+  pub soft-judged-error : keptOf (blockIn a) ≤ length (entriesAt a′) / 2
+      → (said : Result L.Answer) × (r′ ≡ answerAs said) × Verdict (streamOf a′) (blockIn a) (ok (saidBy r)) said
+  soft-judged-error slots = (
+    unlessBad (streamOf a′) (blockIn a) (ok (saidBy r)),
+    q .0 ∙ ap answerAs (soft-read-error (streamOf a) (streamOf a′) soft (meant .0) (meant .1) (r .ends) (meant .2 .0) (length (entriesAt a′) / 2) slots ∙
+        ap (unlessBad (streamOf a′) (blockIn a)) (meant .2 .1)),
+    unless-bad (streamOf a′) (blockIn a) (ok (saidBy r)),
+  )
+
+  -- its entries are those of s
+  pub soft-kept-error : r′ .outcome ≡ Fine → entriesAfter x′ ≡ entriesOf (blockIn a) ++ drop (length (entriesOf (blockIn a))) (entriesAt a′)
+  soft-kept-error f =
+      fine-reports r′ (stderrSaid κs′ a′ r′ x′ q) (q .0) f _ _ _ (q .1) ∙
+      ap (λ (y : Pieces). entriesOf y ++ drop (length (entriesOf y)) (entriesAt a′)) (soft-error-pieces (streamOf a) (streamOf a′) soft (meant .0) (meant .1))
+
+  -- string number i that it keeps is the one that s has there, where none of its bytes was changed
+  pub soft-string-error : r′ .outcome ≡ Fine → (i : ℕ) → i < keptOf (blockIn a)
+      → Untouched (streamOf a) (streamOf a′) (entryStart (entriesOf (blockIn a)) i) (entryLength (entriesOf (blockIn a)) i)
+      → viewOf (streamOf a′) (entriesAfter x′) i ≡ viewOf (streamOf a) (entriesOf (blockIn a)) i
+  soft-string-error f i h u =
+      let l = entries-length (blockIn a) in
+      ap (λ (es : List ℕ). viewOf (streamOf a′) es i) (soft-kept-error f)
+      ∙ view-kept (streamOf a) (streamOf a′) (soft .size) (entriesOf (blockIn a)) _ i (omega arith) u

@@ -59,7 +59,7 @@ count-back : (r : Read) → readBy (λ x. x .found .entries) (countRead r) ≡ r
 count-back (R.Value v next) = refl
 count-back (R.Refused r) = refl
 
-count-told : {b : Result Ended} (r r′ : Read) → countRead r ≡ b → countRead r′ ≡ b → r ≡ r′
+pub count-told : {b : Result Ended} (r r′ : Read) → countRead r ≡ b → countRead r′ ≡ b → r ≡ r′
 count-told = told countRead (readBy (λ x. x .found .entries)) count-back
 
 total-back : (r : Read) → readBy (λ x. x .found .payload) (totalRead r) ≡ r
@@ -88,7 +88,7 @@ spanned-back : (r : Spanned) → spannedOf (spanned r) ≡ r
 spanned-back (S.Contents start len next) = refl
 spanned-back (S.Refused r) = refl
 
-spanned-told : {b : Result Span} (r r′ : Spanned) → spanned r ≡ b → spanned r′ ≡ b → r ≡ r′
+pub spanned-told : {b : Result Span} (r r′ : Spanned) → spanned r ≡ b → spanned r′ ≡ b → r ≡ r′
 spanned-told = told spanned spannedOf spanned-back
 
 abbrev skippedOf : Result ℕ → Skipped
@@ -117,11 +117,11 @@ peek-u64-unique κs a r r′ x x′ p q = peeked-told r r′ p q
 
 pub read-bytes-unique : (κs : Lfts 1) (a : Dens κs read-bytes-kinds.ps) (r r′ : Spanned) (x x′ : AtExit (endedOf 1 read-bytes-kinds.ps read-bytes-kinds.r) κs)
     → read-bytes.Post κs a r x → read-bytes.Post κs a r′ x′ → r ≡ r′
-read-bytes-unique κs a r r′ x x′ p q = spanned-told r r′ p q
+read-bytes-unique κs a r r′ x x′ p q = spanned-told r r′ (p .0) (q .0)
 
 pub read-string-unique : (κs : Lfts 1) (a : Dens κs read-string-kinds.ps) (r r′ : Spanned) (x x′ : AtExit (endedOf 1 read-string-kinds.ps read-string-kinds.r) κs)
     → read-string.Post κs a r x → read-string.Post κs a r′ x′ → r ≡ r′
-read-string-unique κs a r r′ x x′ p q = spanned-told r r′ p q
+read-string-unique κs a r r′ x x′ p q = spanned-told r r′ (p .0) (q .0)
 
 pub skip-string-unique : (κs : Lfts 1) (a : Dens κs skip-string-kinds.ps) (r r′ : Skipped) (x x′ : AtExit (endedOf 1 skip-string-kinds.ps skip-string-kinds.r) κs)
     → skip-string.Post κs a r x → skip-string.Post κs a r′ x′ → r ≡ r′
@@ -129,11 +129,11 @@ skip-string-unique κs a r r′ x x′ p q = skipped-told r r′ p q
 
 pub read-string-set-unique : (κs : Lfts 2) (a : Dens κs read-string-set-kinds.ps) (r r′ : Read) (x x′ : AtExit (endedOf 2 read-string-set-kinds.ps read-string-set-kinds.r) κs)
     → read-string-set.Post κs a r x → read-string-set.Post κs a r′ x′ → (r ≡ r′) × (now (x .1 .1 .0) ≡ now (x′ .1 .1 .0))
-read-string-set-unique κs a r r′ x x′ p q = (count-told r r′ (p .0) (q .0), p .1 ∙ sym (q .1))
+read-string-set-unique κs a r r′ x x′ p q = (count-told r r′ (p .0) (q .0), p .1 .0 ∙ sym (q .1 .0))
 
 pub read-string-set-bytes-unique : (κs : Lfts 2) (a : Dens κs read-string-set-bytes-kinds.ps) (r r′ : Read) (x x′ : AtExit (endedOf 2 read-string-set-bytes-kinds.ps read-string-set-bytes-kinds.r) κs)
     → read-string-set-bytes.Post κs a r x → read-string-set-bytes.Post κs a r′ x′ → (r ≡ r′) × (now (x .1 .1 .0) ≡ now (x′ .1 .1 .0))
-read-string-set-bytes-unique κs a r r′ x x′ p q = (count-told r r′ (p .0) (q .0), p .1 ∙ sym (q .1))
+read-string-set-bytes-unique κs a r r′ x x′ p q = (count-told r r′ (p .0) (q .0), p .1 .0 ∙ sym (q .1 .0))
 
 pub skip-string-set-unique : (κs : Lfts 1) (a : Dens κs skip-string-set-kinds.ps) (r r′ : Read) (x x′ : AtExit (endedOf 1 skip-string-set-kinds.ps skip-string-set-kinds.r) κs)
     → skip-string-set.Post κs a r x → skip-string-set.Post κs a r′ x′ → r ≡ r′

@@ -4,6 +4,7 @@ ghost use mathlib.Core.Path.{_≡_};
 ghost use lib.ListN.{length};
 ghost use Rattle.layouts.specs.Judge.{lentAfter};
 ghost use Rattle.layouts.specs.Calls.{readNumber, readU32, peekNumber, skipString, readStringSet, skipStringSet, readFramed, skipFramed};
+ghost use Rattle.layouts.specs.Demands.{Held};
 ghost use Rattle.wire.specs.Answers.{numberRead, countRead, totalRead, peeked, spanned, skippedTo, readBytes, readText, framedPayload, setFilled, setRead, setReadBytes};
 ghost use Rattle.pieces.specs.Pieces.{stringAt};
 use layouts::Refusal;
@@ -161,14 +162,16 @@ impl Cursor {
     }
 
     pub fn read_bytes(self, s: &[u8]) -> Spanned
-        ensures { λ r. ⌜ spanned r ≡ readBytes (now (s .entry)) (self .at) ⌝ }
+        ensures answer { λ r. ⌜ spanned r ≡ readBytes (now (s .entry)) (self .at) ⌝ }
+        ensures held { λ r. ⌜ Held (now (s .entry)) ⌝ }
     {
         let at = self.at;
         string_at(s, at, false)
     }
 
     pub fn read_string(self, s: &[u8]) -> Spanned
-        ensures { λ r. ⌜ spanned r ≡ readText (now (s .entry)) (self .at) ⌝ }
+        ensures answer { λ r. ⌜ spanned r ≡ readText (now (s .entry)) (self .at) ⌝ }
+        ensures held { λ r. ⌜ Held (now (s .entry)) ⌝ }
     {
         string_at(s, self.at, true)
     }
@@ -191,6 +194,7 @@ impl Cursor {
     pub fn read_string_set(self, s: &[u8], entries: &mut [u64]) -> Read
         ensures answer { λ r. ⌜ countRead r ≡ setRead (now (s .entry)) (self .at) (now (entries .entry)) .answer ⌝ }
         ensures room { λ r. ⌜ now (entries .exit) ≡ setRead (now (s .entry)) (self .at) (now (entries .entry)) .entries ⌝ }
+        ensures held { λ r. ⌜ Held (now (s .entry)) ⌝ }
     {
         let mut none: [u8; 0] = [];
         read_set(s, self.at, entries, &mut none)
@@ -200,6 +204,7 @@ impl Cursor {
     pub fn read_string_set_bytes(self, s: &[u8], entries: &mut [u8]) -> Read
         ensures answer { λ r. ⌜ countRead r ≡ setReadBytes (now (s .entry)) (self .at) (now (entries .entry)) .answer ⌝ }
         ensures room { λ r. ⌜ now (entries .exit) ≡ setReadBytes (now (s .entry)) (self .at) (now (entries .entry)) .entries ⌝ }
+        ensures held { λ r. ⌜ Held (now (s .entry)) ⌝ }
     {
         let mut none: [u64; 0] = [];
         read_set(s, self.at, &mut none, entries)

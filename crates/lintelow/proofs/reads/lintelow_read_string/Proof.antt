@@ -12,7 +12,12 @@ use Rattle.lintelow_answers.specs.Answers.{stringRead}
 use Rattle.lintelow_answers.proofs.Guard.{told-number, told-block}
 
 returns : tie.Need-returns
-returns c = let e = c .before .before .before .string .ensures ∙ ap (λ (x : Result Span). answerAs (stringRead x)) (c .before .before .before .before .before .read-string .ensures) in (told-number (now (c .before .before .before .before .before .before .before .before .args .block)) (answerAs (stringRead (readText (now (c .before .before .before .before .before .before .before .before .args .s)) (c .before .before .before .before .before .before .before .before .args .at)))) _ _ e (c .before .before .put .ensures .0), told-block (now (c .before .before .before .before .before .before .before .before .args .block)) (answerAs (stringRead (readText (now (c .before .before .before .before .before .before .before .before .args .s)) (c .before .before .before .before .before .before .before .before .args .at)))) _ _ e (c .before .before .put .ensures .1))
+returns c =
+    let a = c .before .before .before .before .before .before .before .before .args in
+    let r = c .before .before .before .before .before .read-string .ensures in
+    let e = c .before .before .before .string .ensures ∙ ap (λ (x : Result Span). answerAs (stringRead x)) (r .0) in
+    let o = answerAs (stringRead (readText (now (a .s)) (a .at))) in
+    (told-number (now (a .block)) o _ _ e (c .before .before .put .ensures .0), (told-block (now (a .block)) o _ _ e (c .before .before .put .ensures .1), r .1))
 
 pub lintelow-read-string-spec : {M : Type 1} → statement M
 lintelow-read-string-spec =

@@ -10,14 +10,26 @@ use Rattle.walk_judge.specs.Judged.{answerAs}
 use Rattle.lintelow_answers.specs.Answers.{ended}
 use Rattle.lintelow_answers.proofs.Guard.{called-short, called-long}
 
+returns : tie.Need-returns
+returns c =
+    let h = called-short (λ x. answerAs (ended x)) (now (c .before .before .before .before .args .block)) _ _ _ (c .if1 .taken) in
+    (h .0, (h .1 .0, (h .1 .1, (λ i. c .before .before .before .shared-slice-known .given i .fits, search needs))))
+
+returns-2 : tie.Need-returns-2
+returns-2 c =
+    let r = c .before .before .before .before .before .before .before .read-string-set-bytes .ensures in
+    let e = c .before .before .before .count .ensures ∙ ap (λ (x : Result Ended). answerAs (ended x)) (r .0) in
+    let h = called-long (λ x. answerAs (ended x)) (now (c .before .before .before .before .before .before .before .before .before .before .before .before .before .args .block)) _ _ _ (c .before .before .before .before .before .before .before .before .before .if1 .left) _ e _ _ (c .before .before .put .ensures) _ (r .1 .0) in
+    (h .0, (h .1 .0, (h .1 .1, r .1 .1)))
+
 pub lintelow-read-string-set-spec : {M : Type 1} → statement M
 lintelow-read-string-set-spec =
     tie.close
     (tie.spec
-    (λ c. called-short (λ x. answerAs (ended x)) (now (c .before .before .before .before .args .block)) _ _ _ (c .if1 .taken))
+    returns
     (λ c κs. search needs)
     (λ c κs. search needs)
     (λ c κs. search needs)
     (λ c. search needs)
     (λ c. search needs)
-    (λ c. called-long (λ x. answerAs (ended x)) (now (c .before .before .before .before .before .before .before .before .before .before .before .before .before .args .block)) _ _ _ (c .before .before .before .before .before .before .before .before .before .if1 .left) _ (c .before .before .before .count .ensures ∙ ap (λ (x : Result Ended). answerAs (ended x)) (c .before .before .before .before .before .before .before .read-string-set-bytes .ensures .0)) _ _ (c .before .before .put .ensures) _ (c .before .before .before .before .before .before .before .read-string-set-bytes .ensures .1)))
+    returns-2)

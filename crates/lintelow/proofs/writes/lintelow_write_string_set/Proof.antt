@@ -5,14 +5,23 @@ use Rattle.lintelow.proofs.writes.lintelow_write_string_set.Tie as tie
 use denote.Ref.{now}
 use Rattle.lintelow_answers.proofs.Guard.{write-short, write-long}
 
+returns : tie.Need-returns
+returns c = let h = write-short (now (c .before .before .before .before .before .args .block)) _ _ _ (c .if1 .taken) in (h .0, (h .1 .0, (h .1 .1, search needs)))
+
+returns-2 : tie.Need-returns-2
+returns-2 c =
+    let w = c .before .before .before .before .before .before .before .write-string-set-bytes in
+    let h = write-long (now (c .before .before .before .before .before .before .before .before .before .before .before .before .before .before .args .block)) _ _ _ (c .before .before .before .before .before .before .before .before .before .if1 .left) (w .result) _ (w .ensures) _ (c .before .before .before .write .ensures) _ _ (c .before .before .put .ensures) in
+    (h .0, (h .1 .0, (h .1 .1, search needs)))
+
 pub lintelow-write-string-set-spec : {M : Type 1} → statement M
 lintelow-write-string-set-spec =
     tie.close
     (tie.spec
-    (λ c. write-short (now (c .before .before .before .before .before .args .block)) _ _ _ (c .if1 .taken))
+    returns
     (λ c κs. search needs)
     (λ c κs. search needs)
     (λ c κs. search needs)
     (λ c. search needs)
     (λ c. search needs)
-    (λ c. write-long (now (c .before .before .before .before .before .before .before .before .before .before .before .before .before .before .args .block)) _ _ _ (c .before .before .before .before .before .before .before .before .before .if1 .left) (c .before .before .before .before .before .before .before .write-string-set-bytes .result) _ (c .before .before .before .before .before .before .before .write-string-set-bytes .ensures) _ (c .before .before .before .write .ensures) _ _ (c .before .before .put .ensures)))
+    returns-2)

@@ -14,4 +14,4 @@ read-string-set-spec =
     (λ c. search needs)
     (λ c κs. search needs)
     (λ c. search needs)
-    (λ c. set-words (now (c .before .before .before .before .before .before .before .before .args .s)) _ _ (now (c .before .before .before .before .before .before .before .before .args .entries)) _ [] _ (c .before .before .before .read-set .ensures) refl))
+    (λ c. let h = set-words (now (c .before .before .before .before .before .before .before .before .args .s)) _ _ (now (c .before .before .before .before .before .before .before .before .args .entries)) _ [] _ (c .before .before .before .read-set .ensures) refl in (h .0, (h .1, (λ i. c .before .before .before .before .before .before .before .shared-slice-known .given i .fits, search needs)))))

@@ -14,4 +14,4 @@ read-string-set-bytes-spec =
     (λ c. search needs)
     (λ c κs. search needs)
     (λ c. search needs)
-    (λ c. set-bytes (now (c .before .before .before .before .before .before .before .before .args .s)) _ _ [] _ (now (c .before .before .before .before .before .before .before .before .args .entries)) _ (c .before .before .before .read-set .ensures) refl))
+    (λ c. let h = set-bytes (now (c .before .before .before .before .before .before .before .before .args .s)) _ _ [] _ (now (c .before .before .before .before .before .before .before .before .args .entries)) _ (c .before .before .before .read-set .ensures) refl in (h .0, (h .1, (λ i. c .before .before .before .before .before .before .before .shared-slice-known .given i .fits, search needs)))))

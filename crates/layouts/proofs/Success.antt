@@ -1,0 +1,134 @@
+-- 0 is success: no refusal of a string or of a set has that number. And a string that is passed lies in its stream.
+use Prim.Native.Nat.{ℕ, zero, suc, _+_, _-_, _≤_, _<_}
+use mathlib.Core.Path.{_≡_}
+use mathlib.Core.List.{List, _∷_}
+use mathlib.Core.Bool.{Bool, true, false, not, _&&_}
+use lib.ListN.{length, take, drop}
+use lib.Dec.{leb, ltb}
+use native.Mathlib.Omega.{arith}
+use Rattle.text.specs.Prefix.{isText}
+use Rattle.text.specs.Rfc3629.{Text}
+use Rattle.layouts.specs.declared.Record.{Record}
+use Rattle.layouts.specs.Primitive.{pick, numberAt, padOf, cutShort, badText, noEntryRoom, noPayloadRoom, outputFull, noSuchEntry, badEntry, Result, ok, refused, onward}
+use Rattle.layouts.specs.Shape.{Role, kept, asCount, str, set, units, strings, layout, stop}
+use Rattle.layouts.specs.Pieces as P
+use Rattle.layouts.specs.Pieces.{Pieces, number, text, half, chunk, end, fault, run, afterNum, afterText, skipOf}
+use Rattle.layouts.specs.Record.{noted, isKept, entered, withPayload}
+use Rattle.layouts.specs.Judge.{notText, textTaken, halfTaken, chunkTaken, judgeOf}
+use Rattle.layouts.specs.Calls.{field, readString, readStringSet}
+use Rattle.layouts.specs.Writers.{slotsOf, entryStart, entryLength, viewOf, stringBytes, setBytes, writing, writeString, textAt, textsFrom, textsOf, writeStringSet}
+use Rattle.layouts.proofs.Placed.{never-both}
+use Rattle.layouts.proofs.Views.{NumView, is-value, is-short, TextView, no-length, too-long, no-contents, no-padding, is-whole, num-view, text-view}
+
+-- if it is a refusal, its number is not 0
+abbrev pub Numbered : {A : Type 0} → Result A → Type 0
+Numbered (ok a) = Unit {0}
+Numbered (refused which place stream) = 0 < which
+
+pub onward-numbered : {A B : Type 0} (o : Result A) (k : A → Result B) → Numbered o → ((a : A) → Numbered (k a)) → Numbered (onward o k)
+onward-numbered (ok a) k h g = g a
+onward-numbered (refused which place stream) k h g = h
+
+pick-numbered : {A : Type 0} (b : Bool) (o u : Result A) → Numbered o → Numbered u → Numbered (pick b o u)
+pick-numbered true o u h g = h
+pick-numbered false o u h g = g
+
+-- the writers
+pub writing-numbered : (b lent : List ℕ) → Numbered (writing b lent)
+unfolding writing
+writing-numbered b lent = pick-numbered (leb (length b) (length lent)) (ok (length b)) (refused outputFull 0 0) tt (omega arith)
+
+pub string-numbered : (c lent : List ℕ) → Numbered (writeString c lent)
+unfolding writeString
+string-numbered c lent = pick-numbered (isText c) (writing (stringBytes c) lent) (refused badText 0 0) (writing-numbered (stringBytes c) lent) (omega arith)
+
+module _ (bytes es : List ℕ) where
+  view-numbered : (i : ℕ) → Numbered (viewOf bytes es i)
+  unfolding viewOf
+  view-numbered i =
+      let start = entryStart es i in
+      let len = entryLength es i in
+      let part = pick (leb (start + len) (length bytes)) (ok (take len (drop start bytes))) (refused badEntry i 0) in
+      pick-numbered (ltb i (slotsOf es)) part (refused noSuchEntry i 0)
+      (pick-numbered (leb (start + len) (length bytes)) (ok (take len (drop start bytes))) (refused badEntry i 0) tt (omega arith)) (omega arith)
+
+  text-numbered : (i : ℕ) → Numbered (textAt bytes es i)
+  unfolding textAt
+  text-numbered i =
+      onward-numbered (viewOf bytes es i) (λ c. pick (isText c) (ok c) (refused badText i 0)) (view-numbered i)
+      (λ c. pick-numbered (isText c) (ok c) (refused badText i 0) tt (omega arith))
+
+  texts-numbered : (n i : ℕ) → Numbered (textsFrom bytes es n i)
+  unfolding textsFrom
+  texts-numbered zero i = tt
+  texts-numbered (suc n) i =
+      onward-numbered (textAt bytes es i) (λ c. onward (textsFrom bytes es n (i + 1)) (λ cs. ok (c ∷ cs))) (text-numbered i)
+      (λ c. onward-numbered (textsFrom bytes es n (i + 1)) (λ cs. ok (c ∷ cs)) (texts-numbered n (i + 1)) (λ cs. tt))
+
+  pub set-numbered : (count : ℕ) (lent : List ℕ) → Numbered (writeStringSet bytes es count lent)
+  unfolding writeStringSet textsOf
+  set-numbered count lent =
+      onward-numbered (textsOf bytes es count) (λ cs. writing (setBytes cs) lent)
+      (pick-numbered (leb count (slotsOf es)) (textsFrom bytes es count 0) (refused noSuchEntry count 0) (texts-numbered count 0) (omega arith))
+      (λ cs. writing-numbered (setBytes cs) lent)
+
+-- the readers
+module _ (s : List ℕ) where
+  judge-numbered : (slots room : ℕ) (r : Record) (p : Pieces) → Numbered (skipOf p) → Numbered (judgeOf s slots room r p)
+  unfolding judgeOf skipOf textTaken halfTaken chunkTaken
+  judge-numbered slots room r (number i place n p) h = judge-numbered slots room (noted r i n) p h
+  judge-numbered slots room r (text m start len p) h =
+      onward-numbered (textTaken s slots r m start len) (λ r'. judgeOf s slots room r' p)
+      (pick-numbered (notText s m start len) (refused badText start 0) (pick (isKept m && leb slots (r .entries)) (refused noEntryRoom (start - 8) 0) (ok (entered r m))) (omega arith)
+      (pick-numbered (isKept m && leb slots (r .entries)) (refused noEntryRoom (start - 8) 0) (ok (entered r m)) (omega arith) tt))
+      (λ r'. judge-numbered slots room r' p h)
+  judge-numbered slots room r (half m start len) h = pick-numbered (notText s m start len) (refused badText start 0) (refused cutShort (start + len) 0) (omega arith) (omega arith)
+  judge-numbered slots room r (chunk start len p) h =
+      onward-numbered (chunkTaken room r start len) (λ r'. judgeOf s slots room r' p)
+      (pick-numbered (leb (r .payload + len) room) (ok (withPayload r (r .payload + len))) (refused noPayloadRoom (start - 8) 0) tt (omega arith))
+      (λ r'. judge-numbered slots room r' p h)
+  judge-numbered slots room r (end place) h = tt
+  judge-numbered slots room r (fault which place) h = h
+
+  say-numbered : (m : Role) (at : ℕ) (k : ℕ → Pieces) {t : P.Text} → TextView (length s) (numberAt s at) at t → ((a : ℕ) → Numbered (skipOf (k a))) → Numbered (skipOf (afterText t m k))
+  unfolding afterText skipOf
+  say-numbered m at k (no-length h) g = omega arith
+  say-numbered m at k (too-long h l) g = omega arith
+  say-numbered m at k (no-contents h l c) g = omega arith
+  say-numbered m at k (no-padding h l c) g = omega arith
+  say-numbered m at k (is-whole h l) g = g (at + 8 + numberAt s at + padOf (numberAt s at))
+
+  units-numbered : (n at : ℕ) → Numbered (skipOf (run (units kept 0 n (λ u. stop)) s at))
+  unfolding units strings run skipOf
+  units-numbered zero at = tt
+  units-numbered (suc n) at = say-numbered kept at (λ a. run (units kept 0 n (λ u. stop)) s a) (text-view (length s) (numberAt s at) at) (λ a. units-numbered n a)
+
+  ask-numbered : (at : ℕ) (k : ℕ → Pieces) {t : P.Num} → NumView (length s) (numberAt s at) at t → ((n : ℕ) → Numbered (skipOf (k n))) → Numbered (skipOf (afterNum t (asCount 0) at k))
+  unfolding afterNum skipOf
+  ask-numbered at k (is-value h) g = g (numberAt s at)
+  ask-numbered at k (is-short h) g = omega arith
+
+  pub skip-numbered : (m : Role) (at : ℕ) → Numbered (skipOf (run (field (str m)) s at))
+  unfolding layout run skipOf
+  skip-numbered m at = say-numbered m at (λ a. end a) (text-view (length s) (numberAt s at) at) (λ a. tt)
+
+  pub read-numbered : (at : ℕ) → Numbered (readString s at)
+  read-numbered at = judge-numbered 1 0 _ (run (field (str kept)) s at) (skip-numbered kept at)
+
+  pub read-set-numbered : (at slots : ℕ) → Numbered (readStringSet s at slots)
+  unfolding layout run
+  read-set-numbered at slots =
+      judge-numbered slots 0 _ (run (field (set kept (asCount 0))) s at)
+      (ask-numbered at (λ n. run (units kept 0 n (λ u. stop)) s (at + 8)) (num-view (length s) (numberAt s at) at) (λ n. units-numbered n (at + 8)))
+
+  -- a string that is passed lies in the stream
+  pub string-within : (m : Role) (at e : ℕ) → skipOf (run (field (str m)) s at) ≡ ok e → (at + 8 + numberAt s at ≤ e) × (e ≤ length s)
+  unfolding layout run afterText skipOf
+  string-within m at e q = by (text-view (length s) (numberAt s at) at) q
+    where
+      by : {t : P.Text} → TextView (length s) (numberAt s at) at t → skipOf (afterText t m (λ a. end a)) ≡ ok e → (at + 8 + numberAt s at ≤ e) × (e ≤ length s)
+      by (no-length h) q = absurd (never-both q)
+      by (too-long h l) q = absurd (never-both q)
+      by (no-contents h l c) q = absurd (never-both q)
+      by (no-padding h l c) q = absurd (never-both q)
+      by (is-whole h l) q = let z : at + 8 + numberAt s at + padOf (numberAt s at) ≡ e = cc in (omega arith, omega arith)
