@@ -68,9 +68,9 @@ def layout_names(rows, others):
     taken = {constant(name) for name in others}
     definitions = load(OPERATIONS)
     for name, words in definitions.types.items():
-        if words in (["List", "Item"], ["List", "Group"]) and constant(name) not in taken:
+        if words in (["List", "Gated"], ["List", "Group"]) and constant(name) not in taken:
             value = definitions.value(name)
-            names.setdefault(once(value) if words[1] == "Item" else value, constant(name))
+            names.setdefault(once(value) if words[1] == "Gated" else value, constant(name))
     for row in rows:
         for column, field in LAYOUTS.items():
             names.setdefault(row[column], f"{constant(field)}_{row['code']}")
@@ -150,7 +150,7 @@ WHATS = {"num": 1, "str": 2, "set": 3, "pairs": 4, "framed": 5, "maybe": 6, "typ
 ROLES = {"passed": 0, "checked": 1, "kept": 2}
 GROUPS = {"once": 1, "opt": 2, "many": 3}
 # the first of them, and how many the record has
-SLOTS = {"dropped": (0, 1), "asNumber": (1, 12), "asFlag": (13, 12), "asCount": (25, 3), "asPresence": (28, 1)}
+TARGETS = {"dropped": (0, 1), "asNumber": (1, 12), "asFlag": (13, 12), "asCount": (25, 3), "asPresence": (28, 1)}
 # from here on a number is no kind but the code of one that is decided
 FIRST_CODE = 32
 
@@ -169,17 +169,17 @@ def joined(*parts):
     return total
 
 
-def slot_of(slot):
-    first, room = known(SLOTS, slot.name)
-    return first + fitting(slot.name, sum(slot.args), room)
+def target_of(target):
+    first, room = known(TARGETS, target.name)
+    return first + fitting(target.name, sum(target.args), room)
 
 
 def field_code(item):
     what = item.args[-1]
     role = sum(ROLES[arg.name] for arg in what.args if arg.name in ROLES)
-    slot = sum(slot_of(arg) for arg in what.args if arg.name in SLOTS)
+    target = sum(target_of(arg) for arg in what.args if arg.name in TARGETS)
     minor = sum(item.args[:-1])
-    return joined(("a kind", known(WHATS, what.name), 16), ("a role", role, 4), ("a slot", slot, 64), ("a gate", known(GATES, item.name), 4), ("a minor version", minor, 256))
+    return joined(("a kind", known(WHATS, what.name), 16), ("a role", role, 4), ("a target", target, 64), ("a gate", known(GATES, item.name), 4), ("a minor version", minor, 256))
 
 
 class Sequences:
@@ -198,7 +198,7 @@ class Sequences:
         return len(self.numbers) - len(numbers)
 
 
-# what a group is multiplied by to make room for its kind and slot
+# what a group is multiplied by to make room for its kind and target
 GROUP_UNIT = 4 * 64
 
 
@@ -230,8 +230,8 @@ class Tables:
         return self.groups.place(map(self.group_code, groups), shape_of(groups))
 
     def group_code(self, group):
-        slot = sum(map(slot_of, group.args[:-1]))
-        return joined(("a kind", known(GROUPS, group.name), 4), ("a slot", slot, 64), ("a place of fields", self.place_fields(group.args[-1]), 2**55))
+        target = sum(map(target_of, group.args[:-1]))
+        return joined(("a kind", known(GROUPS, group.name), 4), ("a target", target, 64), ("a place of fields", self.place_fields(group.args[-1]), 2**55))
 
     def kind_code(self, kind):
         if kind.name != "just":

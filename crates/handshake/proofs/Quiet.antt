@@ -5,7 +5,7 @@ use mathlib.Core.List.{List, []}
 use mathlib.Core.Bool.{Bool, true, false}
 use lib.ListN.{length}
 use Rattle.layouts.specs.Primitive.{Version, version, atLeast, numberAt}
-use Rattle.layouts.specs.Shape.{Slot, dropped, maybe, num, What, Tree, ask, stop, ifTrue, field, gated, fields, group, groups, layout}
+use Rattle.layouts.specs.Shape.{Target, dropped, maybe, num, What, Tree, ask, stop, ifTrue, field, gated, fields, group, groups, layout}
 use Rattle.layouts.specs.Pieces.{Pieces, Num, value, short, numOf, afterNum, run}
 use Rattle.layouts.specs.Judge.{entriesOf}
 use Rattle.layouts.specs.Handshake.{hello, fieldsAt, obsoleteFields}
@@ -13,12 +13,12 @@ use Rattle.layouts.specs.Handshake.{hello, fieldsAt, obsoleteFields}
 abbrev pub Quiet : Tree → Type 0
 Quiet t = (s : List ℕ) (at : ℕ) → entriesOf (run t s at) ≡ []
 
-number-quiet : (m : Num) (i : Slot) (at : ℕ) (k : ℕ → Pieces) → ((n : ℕ) → entriesOf (k n) ≡ []) → entriesOf (afterNum m i at k) ≡ []
+number-quiet : (m : Num) (i : Target) (at : ℕ) (k : ℕ → Pieces) → ((n : ℕ) → entriesOf (k n) ≡ []) → entriesOf (afterNum m i at k) ≡ []
 unfolding afterNum entriesOf
 number-quiet (value n) i at k h = h n
 number-quiet short i at k h = refl
 
-ask-quiet : (i : Slot) (k : ℕ → Tree) → ((n : ℕ) → Quiet (k n)) → Quiet (ask i k)
+ask-quiet : (i : Target) (k : ℕ → Tree) → ((n : ℕ) → Quiet (k n)) → Quiet (ask i k)
 unfolding run
 ask-quiet i k h s at = number-quiet (numOf (length s) (numberAt s at) at) i at (λ n. run (k n) s _) (λ n. h n s _)
 

@@ -8,7 +8,7 @@ use lib.Dec.{eqb}
 use borrow.Author.Tests.{eqb-true, eqb-false}
 use native.Mathlib.Omega.{arith}
 use Rattle.layouts.specs.Primitive.{pick, Version, version, atLeast, ok, refused}
-use Rattle.layouts.specs.Shape.{dropped, Role, passed, kept, What, num, str, set, pairs, framed, maybe, typed, Item, always, from, below, between, once, Tree, stop, strings, units, ifTrue, byType, field, there, what, gated, fields, group, groups, layout}
+use Rattle.layouts.specs.Shape.{dropped, Role, passed, kept, What, num, str, set, pairs, framed, maybe, typed, Gated, always, from, below, between, once, Tree, stop, strings, units, ifTrue, byType, field, there, what, gated, fields, group, groups, layout}
 use Rattle.layouts.specs.Pieces.{run}
 use Rattle.layouts.specs.Record.{blank}
 use Rattle.layouts.specs.Judge.{Ended, judgeOf}
@@ -54,22 +54,22 @@ isF framed = true
 isF maybe = false
 isF typed = false
 
-abbrev none : List Item → Bool
+abbrev none : List Gated → Bool
 none [] = true
 none (x ∷ is) = false
 
 -- nothing follows F
-abbrev lastF : List Item → Bool
+abbrev lastF : List Gated → Bool
 lastF [] = true
 lastF (x ∷ is) = pick (isF (what x)) (none is) (lastF is)
 
 -- F is there
-abbrev hasF : Version → List Item → Bool
+abbrev hasF : Version → List Gated → Bool
 hasF v [] = false
 hasF v (x ∷ is) = pick (isF (what x)) (there v x) (hasF v is)
 
 -- the field whose string is answered; S where none is
-abbrev answeredField : Skip → List Item → What
+abbrev answeredField : Skip → List Gated → What
 answeredField nothing is = str kept
 answeredField empty is = str kept
 answeredField first [] = str kept
@@ -78,18 +78,18 @@ answeredField paths is = str kept
 answeredField overrides is = str kept
 
 module _ (v : Version) where
-  abbrev rest : List Item → Unit {0} → Tree
+  abbrev rest : List Gated → Unit {0} → Tree
   rest is u = fields v is (λ u. stop)
 
   module _ (q : Skip) (j : ℕ) where
-    frames-lower : (c : Bool) (is : List Item) → none is ≡ true → Lowers c j (gated c framed (rest is)) (rest (loweredAll q is) tt)
+    frames-lower : (c : Bool) (is : List Gated) → none is ≡ true → Lowers c j (gated c framed (rest is)) (rest (loweredAll q is) tt)
     unfolding gated field fields
     frames-lower true [] f = leaves
     frames-lower false [] f = stops
     frames-lower c (x ∷ is) f = absurd (not-both f refl)
 
     -- behind its gate the lowered field stands for the field
-    module _ (c : Bool) (is : List Item) (put : What → Item) (e : (w : What) → rest (put w ∷ loweredAll q is) tt ≡ gated c w (rest (loweredAll q is))) where
+    module _ (c : Bool) (is : List Gated) (put : What → Gated) (e : (w : What) → rest (put w ∷ loweredAll q is) tt ≡ gated c w (rest (loweredAll q is))) where
       put-lower : {b : Bool} (w w' : What) → Lowers b j (field w (rest is)) (field w' (rest (loweredAll q is))) → Lowers b j (rest is tt) (rest (loweredAll q is) tt)
           → Lowers b j (gated c w (rest is)) (rest (put w' ∷ loweredAll q is) tt)
       put-lower w w' f h = rw (e w') (gate-lower c w w' (rest is) (rest (loweredAll q is)) f h)
@@ -105,7 +105,7 @@ module _ (v : Version) where
       field-lower maybe f h = put-lower _ _ (asks (λ n. maybe-lower n (rest is) (rest (loweredAll q is)) (h f))) (h f)
       field-lower typed f h = put-lower _ _ (asks (λ n. typed-lower n (rest is) (rest (loweredAll q is)) (h f))) (h f)
 
-    fields-lower : (is : List Item) → lastF is ≡ true → Lowers (hasF v is) j (rest is tt) (rest (loweredAll q is) tt)
+    fields-lower : (is : List Gated) → lastF is ≡ true → Lowers (hasF v is) j (rest is tt) (rest (loweredAll q is) tt)
     unfolding fields
     fields-lower [] f = stops
     fields-lower (always w ∷ is) f = field-lower true is always (λ w'. refl) w f (fields-lower is)
@@ -113,14 +113,14 @@ module _ (v : Version) where
     fields-lower (below x w ∷ is) f = field-lower (there v (below x w)) is (below x) (λ w'. refl) w f (fields-lower is)
     fields-lower (between x y w ∷ is) f = field-lower (there v (between x y w)) is (between x y) (λ w'. refl) w f (fields-lower is)
 
-  kept-lower : (c : Bool) (w : What) (is : List Item) → w ≡ str kept → pick (isF w) (none is) (lastF is) ≡ true
+  kept-lower : (c : Bool) (w : What) (is : List Gated) → w ≡ str kept → pick (isF w) (none is) (lastF is) ≡ true
       → Lowers (pick (isF w) c (hasF v is)) 1 (gated c w (rest is)) (gated c w (rest (loweredAll first is)))
   unfolding field
   kept-lower c w is e f =
       let g : lastF is ≡ true = rw e at f in
       rw e (gate-lower c (str kept) (str kept) (rest is) (rest (loweredAll first is)) (keeps (fields-lower first 0 is g)) (fields-lower first 1 is g))
 
-  skipped-lower : (q : Skip) (is : List Item) → answeredField q is ≡ str kept → lastF is ≡ true → Lowers (hasF v is) 1 (rest is tt) (rest (skipped q is) tt)
+  skipped-lower : (q : Skip) (is : List Gated) → answeredField q is ≡ str kept → lastF is ≡ true → Lowers (hasF v is) 1 (rest is tt) (rest (skipped q is) tt)
   unfolding fields
   skipped-lower nothing is e f = fields-lower nothing 1 is f
   skipped-lower empty is e f = fields-lower empty 1 is f
@@ -153,7 +153,7 @@ unfolding operations
 answered-S = refl
 
 -- skipping has S N N s of AddToStore alone
-abbrev older : ℕ → List Item
+abbrev older : ℕ → List Gated
 older op = pick (eqb op 7) (until 25 (str kept ∷ num dropped ∷ num dropped ∷ str passed ∷ [])) []
 
 older-skips : map (λ (o : Operation). o .skips) operations ≡ map (λ (o : Operation). older (o .code) ++ skipped (o .skip) (o .arguments)) operations
@@ -168,7 +168,7 @@ framed-arguments v = refl
 
 module _ (op : ℕ) (v : Version) where
   -- S N N s stands below 1.25 only
-  older-none : Alike op v → (is : List Item) → rest v (older op ++ is) tt ≡ rest v is tt
+  older-none : Alike op v → (is : List Gated) → rest v (older op ++ is) tt ≡ rest v is tt
   unfolding fields gated
   older-none a is = by (eqb op 7) refl
     where

@@ -7,7 +7,7 @@ use lib.Seq.{length-take-le, getD-drop, drop-drop, drop-at}
 use native.Mathlib.Omega.{arith}
 use native.Mathlib.Nat.{add-zero, zero-add}
 use Rattle.layouts.specs.Primitive.{numberAt, numberBytes, padOf, ok}
-use Rattle.layouts.specs.Shape.{Slot, Role, Tree, ask, say, frames, fail, stop}
+use Rattle.layouts.specs.Shape.{Target, Role, Tree, ask, say, frames, fail, stop}
 use Rattle.layouts.specs.Pieces.{Pieces, number, text, chunk, Num, Text, Chunk, afterNum, afterText, afterChunk, chunks, run, skipOf}
 use Rattle.layouts.specs.Grammar.{Says, says-number, says-text, says-chunk, says-last, says-end}
 use Rattle.layouts.specs.Demands.{Bytes}
@@ -111,7 +111,7 @@ module _ (s : List ℕ) (bytes : Bytes s) where
         ends = simp length-append (omega arith);
       }
 
-  sound-num : (i : Slot) (at e : ℕ) (k : ℕ → Tree) (f : ℕ → Pieces) {m : Num} → NumView (length s) (numberAt s at) at m → skipOf (afterNum m i at f) ≡ ok e
+  sound-num : (i : Target) (at e : ℕ) (k : ℕ → Tree) (f : ℕ → Pieces) {m : Num} → NumView (length s) (numberAt s at) at m → skipOf (afterNum m i at f) ≡ ok e
       → (skipOf (f (numberAt s at)) ≡ ok e → Begins (k (numberAt s at)) s (at + 8) e (f (numberAt s at)))
       → Begins (ask i k) s at e (afterNum m i at f)
   unfolding afterNum skipOf

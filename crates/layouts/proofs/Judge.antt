@@ -10,7 +10,7 @@ use borrow.Author.Tests.{leb-true, leb-false}
 use native.Mathlib.Omega.{arith}
 use Rattle.layouts.specs.declared.Record.{Record}
 use Rattle.layouts.specs.Primitive.{pick, cutShort, badText, noEntryRoom, noPayloadRoom, Result, ok, refused, onward}
-use Rattle.layouts.specs.Shape.{Slot, dropped, asNumber, asFlag, asCount, asPresence, Role}
+use Rattle.layouts.specs.Shape.{Target, dropped, asNumber, asFlag, asCount, asPresence, Role}
 use Rattle.layouts.specs.Pieces.{Pieces, number, text, half, chunk, end, fault, skipOf, totalOf}
 use Rattle.layouts.specs.Record.{noted, isKept, entered, withPayload, recordOf}
 use Rattle.layouts.specs.Judge.{notText, textTaken, halfTaken, chunkTaken, Ended, judgeOf, entry, entriesOf, payloadOf}
@@ -19,7 +19,7 @@ use Rattle.layouts.specs.Demands.{RefusedBy}
 use Rattle.layouts.proofs.Placed.{never-both, Placed, on-number, on-text, on-half, on-chunk, on-end, on-fault, refused-from}
 
 -- a number moves neither entries nor payload
-pub noted-room : (r : Record) (i : Slot) (x : ℕ) → (noted r i x .entries ≡ r .entries) × (noted r i x .payload ≡ r .payload)
+pub noted-room : (r : Record) (i : Target) (x : ℕ) → (noted r i x .entries ≡ r .entries) × (noted r i x .payload ≡ r .payload)
 unfolding noted
 noted-room r dropped x = (refl, refl)
 noted-room r (asNumber i) x = (refl, refl)

@@ -6,7 +6,7 @@ use borrow.Author.Tests.{le-leb}
 use native.Mathlib.Omega.{arith}
 use Rattle.layouts.specs.declared.Record.{Record}
 use Rattle.layouts.specs.Primitive.{numberAt, padOf, Result, ok, refused}
-use Rattle.layouts.specs.Shape.{Slot, Role, passed, Tree, ask, say, frames, fail, stop}
+use Rattle.layouts.specs.Shape.{Target, Role, passed, Tree, ask, say, frames, fail, stop}
 use Rattle.layouts.specs.Pieces.{Pieces, Num, Text, Chunk, afterNum, afterText, afterChunk, chunks, run, skipOf}
 use Rattle.layouts.specs.Record.{noted, entered, withPayload}
 use Rattle.layouts.specs.Judge.{notText, textTaken, halfTaken, chunkTaken, Ended, judgeOf}
@@ -24,7 +24,7 @@ module _ (s : List ℕ) (slots room : ℕ) where
   abbrev Roomy : (at : ℕ) → Record → Type 0
   Roomy at r = r .payload + length s ≤ room + at
 
-  lower-num : (i : Slot) (at n : ℕ) (r : Record) (f f' : ℕ → Pieces) {m : Num} → NumView (length s) n at m
+  lower-num : (i : Target) (at n : ℕ) (r : Record) (f f' : ℕ → Pieces) {m : Num} → NumView (length s) n at m
       → Alike (skipOf (f n)) (judgeOf s slots room (noted r i n) (f' n)) → Alike (skipOf (afterNum m i at f)) (judgeOf s slots room r (afterNum m i at f'))
   unfolding afterNum skipOf judgeOf
   lower-num i at n r f f' (is-value h) g = g

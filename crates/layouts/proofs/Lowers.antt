@@ -7,7 +7,7 @@ use lib.ListN.{length}
 use native.Mathlib.Omega.{arith}
 use Rattle.layouts.specs.declared.Record.{Record}
 use Rattle.layouts.specs.Primitive.{pick, numberAt, padOf, cutShort, badText, Result, ok, refused, onward}
-use Rattle.layouts.specs.Shape.{Slot, Role, passed, kept, Tree, ask, say, frames, stop, layout}
+use Rattle.layouts.specs.Shape.{Target, Role, passed, kept, Tree, ask, say, frames, stop, layout}
 use Rattle.layouts.specs.Pieces.{Pieces, Num, Text, afterNum, afterText, run, skipOf, totalOf}
 use Rattle.layouts.specs.Record.{blank, withNumber, noted, isKept, entered}
 use Rattle.layouts.specs.Judge.{notText, halfTaken, Ended, judgeOf}
@@ -23,7 +23,7 @@ not-both e f = let z : _≡_ {A = ℕ} 0 1 = cc in omega arith
 
 -- u is t with its strings passed over but for at most j that are kept, and without the F that ends t, if it has one
 pub data Lowers : (hasF : Bool) → (j : ℕ) → (t u : Tree) → Type 0 where
-  asks : {b : Bool} {j : ℕ} {i i' : Slot} {k k' : ℕ → Tree} → ((n : ℕ) → Lowers b j (k n) (k' n)) → Lowers b j (ask i k) (ask i' k')
+  asks : {b : Bool} {j : ℕ} {i i' : Target} {k k' : ℕ → Tree} → ((n : ℕ) → Lowers b j (k n) (k' n)) → Lowers b j (ask i k) (ask i' k')
   passes : {b : Bool} {j : ℕ} {m : Role} {k k' : Unit {0} → Tree} → Lowers b j (k tt) (k' tt) → Lowers b j (say m k) (say passed k')
   keeps : {b : Bool} {j : ℕ} {k k' : Unit {0} → Tree} → Lowers b j (k tt) (k' tt) → Lowers b (suc j) (say kept k) (say kept k')
   leaves : {j : ℕ} → Lowers true j (frames (λ u. stop)) stop
@@ -91,7 +91,7 @@ module _ (s : List ℕ) (slots room : ℕ) {b : Bool} where
       by false false g = both-refused (start + len) (start + len) (omega arith) (omega arith)
 
   module _ (r r' : Record) where
-    num-agree : {n at : ℕ} {w : Num} (i i' : Slot) (p q : ℕ → Pieces) → NumView (length s) n at w
+    num-agree : {n at : ℕ} {w : Num} (i i' : Target) (p q : ℕ → Pieces) → NumView (length s) n at w
         → (at + 8 ≤ length s → Agree b s (at + 8) (judgeOf s slots room (noted r i n) (p n)) (judgeOf s 1 0 (noted r' i' n) (q n)))
         → Agree b s at (judgeOf s slots room r (afterNum w i at p)) (judgeOf s 1 0 r' (afterNum w i' at q))
     unfolding afterNum judgeOf
@@ -145,7 +145,7 @@ module _ (s : List ℕ) (slots room : ℕ) where
   lowers-agree stops at h r r' l = both-end refl
 
 -- how much is kept
-num-kept : {size n at j : ℕ} {w : Num} (i : Slot) (p : ℕ → Pieces) → NumView size n at w → keptOf (p n) ≤ j → keptOf (afterNum w i at p) ≤ j
+num-kept : {size n at j : ℕ} {w : Num} (i : Target) (p : ℕ → Pieces) → NumView size n at w → keptOf (p n) ≤ j → keptOf (afterNum w i at p) ≤ j
 unfolding afterNum keptOf
 num-kept i p (is-value h) l = l
 num-kept i p (is-short h) l = omega arith

@@ -12,7 +12,7 @@ use Rattle.text.specs.Prefix.{isText}
 use Rattle.text.proofs.Meaning.{is-text, text-is}
 use Rattle.layouts.specs.declared.Record.{Record}
 use Rattle.layouts.specs.Primitive.{numberAt, numberBytes, limit, padOf, noEntryRoom}
-use Rattle.layouts.specs.Shape.{Slot, Role, passed, checked, kept, Tree, ask, say, frames, fail, stop}
+use Rattle.layouts.specs.Shape.{Target, Role, passed, checked, kept, Tree, ask, say, frames, fail, stop}
 use Rattle.layouts.specs.Record.{noted, isKept, entered, withPayload}
 use Rattle.layouts.specs.Judge.{isDecoded}
 use Rattle.layouts.specs.Refusals.{Reads, reads-none, reads-number, reads-text, reads-chunk, reads-last, a-number, a-length, contents, padding, a-size, a-chunk, a-string, chunks, Fault, cut, too-long, bad-text, no-slot, no-room, unknown, Answers, Refuses}
@@ -88,7 +88,7 @@ module _ (slots room : ℕ) where
         faults = y .faults;
       })
 
-  module _ (i : Slot) (k : ℕ → Tree) (at : ℕ) (r : Record) where
+  module _ (i : Target) (k : ℕ → Tree) (at : ℕ) (r : Record) where
     number-outcome : (u : List ℕ) → Bytes u → ((n : ℕ) (v : List ℕ) → Bytes v → Outcome (k n) (at + 8) (noted r i n) v) → Outcome (ask i k) at r u
     number-outcome u h f = by (decLe 8 (length u))
       where

@@ -9,7 +9,7 @@ use lib.Dec.{ltb, leb}
 use borrow.Author.Tests.{lt-leb, le-ltb}
 use native.Mathlib.Omega.{arith}
 use Rattle.layouts.specs.Primitive.{pick, numberAt, padOf, ok, refused}
-use Rattle.layouts.specs.Shape.{Slot, Role, Tree, ask, say, frames, fail, stop}
+use Rattle.layouts.specs.Shape.{Target, Role, Tree, ask, say, frames, fail, stop}
 use Rattle.layouts.specs.Pieces.{Pieces, number, text, half, chunk, end, fault, Num, Text, Chunk, afterNum, afterText, afterChunk, chunks, run, skipOf}
 use Rattle.layouts.specs.Soft.{soft, within}
 use Rattle.layouts.proofs.Views.{NumView, is-value, is-short, TextView, no-length, too-long, no-contents, no-padding, is-whole, ChunkView, no-size, is-last, too-large, no-bytes, is-part, num-view, text-view, chunk-view}
@@ -19,7 +19,7 @@ never-both q = let z : _≡_ {A = ℕ} 0 1 = cc in omega arith
 
 -- from lo on and up to hi; where G holds, the fault too is at lo or after
 pub data Placed (G : Type 0) (hi : ℕ) : (lo : ℕ) → Pieces → Type 0 where
-  on-number : {n : ℕ} {i : Slot} {p : Pieces} (lo place : ℕ) → lo ≤ place → place + 8 ≤ hi → Placed G hi (place + 8) p → Placed G hi lo (number i place n p)
+  on-number : {n : ℕ} {i : Target} {p : Pieces} (lo place : ℕ) → lo ≤ place → place + 8 ≤ hi → Placed G hi (place + 8) p → Placed G hi lo (number i place n p)
   on-text : {m : Role} {p : Pieces} (lo start len : ℕ) → lo + 8 ≤ start → start + len + padOf len ≤ hi → Placed G hi (start + len + padOf len) p
       → Placed G hi lo (text m start len p)
   on-half : {m : Role} (lo start len : ℕ) → lo + 8 ≤ start → start + len ≤ hi → Placed G hi lo (half m start len)
@@ -45,7 +45,7 @@ module _ {G : Type 0} {hi : ℕ} where
   placed-from lo' g (on-fault lo place a) = on-fault lo' place (λ x. let q = a x in omega arith)
 
 module _ {G : Type 0} (size n at : ℕ) where
-  num-placed : (i : Slot) {m : Num} (k : ℕ → Pieces) → NumView size n at m → (at + 8 ≤ size → Placed G size (at + 8) (k n)) → Placed G size at (afterNum m i at k)
+  num-placed : (i : Target) {m : Num} (k : ℕ → Pieces) → NumView size n at m → (at + 8 ≤ size → Placed G size (at + 8) (k n)) → Placed G size at (afterNum m i at k)
   unfolding afterNum
   num-placed i k (is-value h) g = on-number at at (omega arith) h (g h)
   num-placed i k (is-short h) g = on-fault at at (λ x. omega arith)

@@ -9,7 +9,7 @@ use lib.Seq.{getD-drop, ext-getD}
 use native.Mathlib.Omega.{arith}
 use native.Mathlib.Decide.{decLt}
 use Rattle.layouts.specs.Primitive.{numberAt, padOf, ok}
-use Rattle.layouts.specs.Shape.{Slot, Role, Tree, ask, say, frames, fail, stop}
+use Rattle.layouts.specs.Shape.{Target, Role, Tree, ask, say, frames, fail, stop}
 use Rattle.layouts.specs.Pieces.{Pieces, number, text, chunk, Num, Text, Chunk, afterNum, afterText, afterChunk, chunks, run, skipOf}
 use Rattle.layouts.specs.Soft.{soft, Softened}
 use Rattle.layouts.proofs.Little.{number-same}
@@ -26,7 +26,7 @@ Hard G at p = (x : ℕ) → at ≤ x → Before p x → soft p x ≡ false → G
 
 -- a number is read before the end
 module _ {F : Type 0} (size n at e : ℕ) where
-  num-past : (i : Slot) {m : Num} (k : ℕ → Pieces) → NumView size n at m → (at + 8 ≤ size → Placed F size (at + 8) (k n)) → skipOf (afterNum m i at k) ≡ ok e → at + 8 ≤ e
+  num-past : (i : Target) {m : Num} (k : ℕ → Pieces) → NumView size n at m → (at + 8 ≤ size → Placed F size (at + 8) (k n)) → skipOf (afterNum m i at k) ≡ ok e → at + 8 ≤ e
   unfolding afterNum skipOf
   num-past i k (is-value h) f q = ends e (f h) q .0
   num-past i k (is-short h) f q = absurd (never-both q)
@@ -50,7 +50,7 @@ module _ {F : Type 0} (size n at e : ℕ) where
   chunk-past again k (is-part h z l) f g q = let y = ends e (f (at + 8 + n) h) q in omega arith
 
 module _ (size n at : ℕ) {G : ℕ → Type 0} where
-  same-num : (i : Slot) {m : Num} (k k' : ℕ → Pieces) → NumView size n at m → Hard G at (afterNum m i at k)
+  same-num : (i : Target) {m : Num} (k k' : ℕ → Pieces) → NumView size n at m → Hard G at (afterNum m i at k)
       → (at + 8 ≤ size → Hard G (at + 8) (k n) → k' n ≡ k n) → afterNum m i at k' ≡ afterNum m i at k
   unfolding afterNum soft skipOf
   same-num i k k' (is-value h) a f = ap (number i at n) (f h (λ x g b q. a x (omega arith) b q))

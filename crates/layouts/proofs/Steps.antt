@@ -5,7 +5,7 @@ use mathlib.Core.List.{List}
 use lib.ListN.{length}
 use native.Mathlib.Omega.{arith}
 use Rattle.layouts.specs.Primitive.{numberAt, padOf}
-use Rattle.layouts.specs.Shape.{Slot, Role, Tree, ask, say, frames}
+use Rattle.layouts.specs.Shape.{Target, Role, Tree, ask, say, frames}
 use Rattle.layouts.specs.Pieces.{Pieces, number, text, half, chunk, fault, Text, Chunk, textOf, chunkOf, afterText, afterChunk, chunks, run}
 use Rattle.layouts.proofs.Views.{ChunkView, no-size, is-last, too-large, no-bytes, is-part, chunk-view, num-value, num-short, text-short, text-long, text-contents, text-cut, text-whole, chunk-short, chunk-long, chunk-cut, chunk-part, chunk-last}
 
@@ -28,7 +28,7 @@ same-chunks (suc f) (suc g) s at k p q h =
     (λ a m l. same-chunks f g s a k (omega arith) (omega arith) l)
 
 module _ (s : List ℕ) (at n : ℕ) (e : n ≡ numberAt s at) where
-  module _ (i : Slot) (k : ℕ → Tree) where
+  module _ (i : Target) (k : ℕ → Tree) where
     pub ask-short : length s < at + 8 → run (ask i k) s at ≡ fault 1 at
     unfolding run
     ask-short h = rw (num-short (length s) (numberAt s at) at h)

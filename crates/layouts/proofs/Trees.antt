@@ -5,7 +5,7 @@ use mathlib.Core.List.{List, [], _∷_}
 use mathlib.Core.Bool.{Bool, true, false}
 use lib.ListN.{length}
 use Rattle.layouts.specs.Primitive.{Version, numberAt}
-use Rattle.layouts.specs.Shape.{Slot, dropped, Role, passed, What, num, str, set, pairs, framed, maybe, typed, Item, Group, once, opt, many, Tree, ask, say, frames, stop, strings, units, ifTrue, byType, field, there, what, gated, fields, repeated, truth, group, groups, layout}
+use Rattle.layouts.specs.Shape.{Target, dropped, Role, passed, What, num, str, set, pairs, framed, maybe, typed, Gated, Group, once, opt, many, Tree, ask, say, frames, stop, strings, units, ifTrue, byType, field, there, what, gated, fields, repeated, truth, group, groups, layout}
 use Rattle.layouts.specs.Pieces.{Pieces, Num, Text, afterNum, afterText, run, totalOf}
 use Rattle.layouts.proofs.Views.{NumView, is-value, is-short, TextView, no-length, too-long, no-contents, no-padding, is-whole, num-view, text-view}
 use Rattle.layouts.proofs.Placed.{NoFail}
@@ -20,7 +20,7 @@ Fits F framed = F
 Fits F maybe = Unit {0}
 Fits F typed = Unit {0}
 
-abbrev pub AllFit : Type 0 → List Item → Type 0
+abbrev pub AllFit : Type 0 → List Gated → Type 0
 AllFit F [] = Unit {0}
 AllFit F (x ∷ is) = Fits F (what x) × AllFit F is
 
@@ -30,7 +30,7 @@ GroupsFit F (once is ∷ gs) = AllFit F is × GroupsFit F gs
 GroupsFit F (opt i is ∷ gs) = AllFit F is × GroupsFit F gs
 GroupsFit F (many i is ∷ gs) = AllFit F is × GroupsFit F gs
 
-module _ (F : Type 0) (P : Tree → Type 0) (asks : (i : Slot) (k : ℕ → Tree) → ((n : ℕ) → P (k n)) → P (ask i k))
+module _ (F : Type 0) (P : Tree → Type 0) (asks : (i : Target) (k : ℕ → Tree) → ((n : ℕ) → P (k n)) → P (ask i k))
     (says : (m : Role) (k : Unit {0} → Tree) → P (k tt) → P (say m k)) (framing : F → (k : Unit {0} → Tree) → P (k tt) → P (frames k)) where
   of-strings : (r : Role) (n : ℕ) (k : Unit {0} → Tree) → P (k tt) → P (strings r n k)
   unfolding strings
@@ -62,12 +62,12 @@ module _ (F : Type 0) (P : Tree → Type 0) (asks : (i : Slot) (k : ℕ → Tree
   of-field true typed k f h = asks dropped (λ n. byType n k) (λ n. of-typed n k h)
 
   module _ (v : Version) where
-    pub of-fields : (is : List Item) (k : Unit {0} → Tree) → AllFit F is → P (k tt) → P (fields v is k)
+    pub of-fields : (is : List Gated) (k : Unit {0} → Tree) → AllFit F is → P (k tt) → P (fields v is k)
     unfolding fields
     of-fields [] k f h = h
     of-fields (x ∷ is) k f h = of-field (there v x) (what x) (λ u. fields v is k) (f .0) (of-fields is k (f .1) h)
 
-    of-repeated : (n : ℕ) (is : List Item) (k : Unit {0} → Tree) → AllFit F is → P (k tt) → P (repeated n v is k)
+    of-repeated : (n : ℕ) (is : List Gated) (k : Unit {0} → Tree) → AllFit F is → P (k tt) → P (repeated n v is k)
     unfolding repeated
     of-repeated zero is k f h = h
     of-repeated (suc n) is k f h = of-fields is (λ u. repeated n v is k) f (of-repeated n is k f h)
@@ -91,7 +91,7 @@ fits framed = tt
 fits maybe = tt
 fits typed = tt
 
-all-fit : (is : List Item) → AllFit (Unit {0}) is
+all-fit : (is : List Gated) → AllFit (Unit {0}) is
 all-fit [] = tt
 all-fit (x ∷ is) = (fits (what x), all-fit is)
 
@@ -109,7 +109,7 @@ layout-never-fails v gs = of-groups (Unit {0}) NoFail (λ i k h. h) (λ m k h. h
 NoPayload : Tree → Type 0
 NoPayload t = (s : List ℕ) (at : ℕ) → totalOf (run t s at) ≡ 0
 
-num-payload : {size n at : ℕ} {m : Num} (i : Slot) (k : ℕ → Pieces) → NumView size n at m → totalOf (k n) ≡ 0 → totalOf (afterNum m i at k) ≡ 0
+num-payload : {size n at : ℕ} {m : Num} (i : Target) (k : ℕ → Pieces) → NumView size n at m → totalOf (k n) ≡ 0 → totalOf (afterNum m i at k) ≡ 0
 unfolding afterNum totalOf
 num-payload i k (is-value h) e = e
 num-payload i k (is-short h) e = refl
@@ -130,5 +130,5 @@ groups-no-payload v gs f =
     (λ m k h s at. text-payload m (λ a. run (k tt) s a) (text-view (length s) (numberAt s at) at) (λ a. h s a))
     (λ f k h. absurd f) v gs (λ u. stop) f (λ s at. refl)
 
-pub no-payload : (v : Version) (is : List Item) → AllFit ⊥ is → (s : List ℕ) (at : ℕ) → totalOf (run (layout v (once is ∷ [])) s at) ≡ 0
+pub no-payload : (v : Version) (is : List Gated) → AllFit ⊥ is → (s : List ℕ) (at : ℕ) → totalOf (run (layout v (once is ∷ [])) s at) ≡ 0
 no-payload v is f = groups-no-payload v (once is ∷ []) (f, tt)

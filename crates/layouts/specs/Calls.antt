@@ -6,7 +6,7 @@ use lib.ListN.{length}
 use lib.Dec.{leb, eqb}
 use Rattle.layouts.specs.declared.Record.{Record}
 use Rattle.layouts.specs.Primitive.{pick, littleAt, numberAt, Version, version, cutShort, unknownOperation, Result, ok, refused, onward}
-use Rattle.layouts.specs.Shape.{dropped, asNumber, asCount, passed, kept, What, num, str, set, framed, Item, always, once, Tree, fail, layout}
+use Rattle.layouts.specs.Shape.{dropped, asNumber, asCount, passed, kept, What, num, str, set, framed, Gated, always, once, Tree, fail, layout}
 use Rattle.layouts.specs.Pieces.{Pieces, Num, numOf, run, skipOf, totalOf}
 use Rattle.layouts.specs.Record.{blank, withNumber}
 use Rattle.layouts.specs.Judge.{Ended, judgeOf, entriesOf, payloadOf, lentAfter}

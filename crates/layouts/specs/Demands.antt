@@ -7,7 +7,7 @@ use lib.ListN.{length, getD, take, drop}
 use lib.Dec.{eqb}
 use Rattle.text.specs.Rfc3629.{Text}
 use Rattle.layouts.specs.Primitive.{pick, numberAt, limit, padOf, Version, version, fromWire, atLeast, badText, Result, ok, refused}
-use Rattle.layouts.specs.Shape.{Slot, asCount, Role, kept, set}
+use Rattle.layouts.specs.Shape.{Target, asCount, Role, kept, set}
 use Rattle.layouts.specs.Pieces.{Pieces, number, text, half, chunk, end, fault, run}
 use Rattle.layouts.specs.Record.{blank, recordOf}
 use Rattle.layouts.specs.Judge.{isDecoded, entriesOf}
@@ -108,7 +108,7 @@ AllText s (fault which place) = Unit {0}
 pub data FirstBad (s : List ℕ) : Pieces → (start : ℕ) → Type 0 where
   here : {m : Role} {start len : ℕ} {p : Pieces} → Bad s m start len → FirstBad s (text m start len p) start
   here-cut : {m : Role} {start len : ℕ} → Bad s m start len → FirstBad s (half m start len) start
-  after-number : {i : Slot} {place n x : ℕ} {p : Pieces} → FirstBad s p x → FirstBad s (number i place n p) x
+  after-number : {i : Target} {place n x : ℕ} {p : Pieces} → FirstBad s p x → FirstBad s (number i place n p) x
   after-text : {m : Role} {start len x : ℕ} {p : Pieces} → Fine s m start len → FirstBad s p x → FirstBad s (text m start len p) x
   after-chunk : {start len x : ℕ} {p : Pieces} → FirstBad s p x → FirstBad s (chunk start len p) x
 

@@ -4,12 +4,12 @@ use mathlib.Core.Path.{_≡_}
 use mathlib.Core.List.{List, [], _++_}
 use lib.ListN.{length}
 use Rattle.layouts.specs.Primitive.{numberBytes, limit, padOf}
-use Rattle.layouts.specs.Shape.{Slot, Role, Tree, ask, say, frames, stop}
+use Rattle.layouts.specs.Shape.{Target, Role, Tree, ask, say, frames, stop}
 use Rattle.layouts.specs.Pieces.{Pieces, number, text, chunk, end}
 
 pub data Says : Tree → (at : ℕ) → List ℕ → Pieces → Type 0 where
   -- N
-  says-number : (i : Slot) (n at : ℕ) (k : ℕ → Tree) (b : List ℕ) (p : Pieces) → n < 18446744073709551616
+  says-number : (i : Target) (n at : ℕ) (k : ℕ → Tree) (b : List ℕ) (p : Pieces) → n < 18446744073709551616
       → Says (k n) (at + 8) b p → Says (ask i k) at (numberBytes n ++ b) (number i at n p)
   -- S: length, contents, padding of any value
   says-text : (m : Role) (at : ℕ) (k : Unit {0} → Tree) (c pad b : List ℕ) (p : Pieces) → length c ≤ limit → length pad ≡ padOf (length c)

@@ -6,7 +6,7 @@ use lib.ListN.{getD}
 use lib.Dec.{eqb}
 use Rattle.layouts.specs.declared.Record.{Record}
 use Rattle.layouts.specs.Primitive.{pick, Version, version, fromWire, atLeast, smaller, clientMagicWrong, daemonMagicWrong, notLast, Result, ok, refused, onward}
-use Rattle.layouts.specs.Shape.{maybe, always, Item, once, Tree, layout}
+use Rattle.layouts.specs.Shape.{maybe, always, Gated, once, Tree, layout}
 use Rattle.layouts.specs.Pieces.{Pieces, run, skipOf}
 use Rattle.layouts.specs.Record.{blank, recordOf}
 use Rattle.layouts.specs.Judge.{judgeOf, entriesOf}
@@ -81,7 +81,7 @@ daemonMagic = 0x6478696f
 abbrev pub numberIn : Record → ℕ → ℕ
 numberIn r i = getD (r .numbers) i 0
 
-abbrev pub fieldsAt : Version → List Item → Tree
+abbrev pub fieldsAt : Version → List Gated → Tree
 fieldsAt v is = layout v (once is ∷ [])
 
 abbrev pub hello : (magic wire : ℕ) → Tree
@@ -92,15 +92,15 @@ abbrev pub lastly : Record → (e : ℕ) → Talk
 lastly r e = pick (eqb (numberIn r 5) Last) over (lost notLast (e - 8) 1)
 
 -- From 1.38: client S*, then daemon S*
-abbrev pub featureFields : ℕ → List Item
+abbrev pub featureFields : ℕ → List Gated
 featureFields i = since 38 (S* i ∷ [])
 
 -- From 1.14: client N, and if nonzero another. From 1.11: client N
-abbrev pub obsoleteFields : List Item
+abbrev pub obsoleteFields : List Gated
 obsoleteFields = since 14 (always maybe ∷ []) ++ since 11 (n ∷ [])
 
 -- From 1.33: daemon S. From 1.35: daemon N. Then daemon N
-abbrev pub infoFields : List Item
+abbrev pub infoFields : List Gated
 infoFields = since 33 (S ∷ []) ++ since 35 (N 4 ∷ []) ++ (N 5 ∷ [])
 
 unfoldable pub daemonInfo : Version → Talk

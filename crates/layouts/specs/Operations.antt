@@ -1,54 +1,54 @@
--- The table of the operations: number, arguments, reply, and the kinds of their answers. The letters are document 01's: N, S, S*, P, F with the slot of the
+-- The table of the operations: number, arguments, reply, and the kinds of their answers. The letters are document 01's: N, S, S*, P, F with the target in the
 -- record, and small ones for what is dropped or passed over.
 use Prim.Native.Nat.{ℕ, max}
 use mathlib.Core.List.{List, [], _∷_, _++_, map}
 use mathlib.Core.Bool.{Bool, true, false}
 use lib.Dec.{eqb}
 use Rattle.layouts.specs.Primitive.{pick, Version, version, atLeast}
-use Rattle.layouts.specs.Shape.{Slot, dropped, asNumber, asFlag, asCount, asPresence, passed, checked, kept, What, num, str, set, pairs, framed, maybe, typed, Item, always, from, below, between, Group, once, opt, many}
+use Rattle.layouts.specs.Shape.{Target, dropped, asNumber, asFlag, asCount, asPresence, passed, checked, kept, What, num, str, set, pairs, framed, maybe, typed, Gated, always, from, below, between, Group, once, opt, many}
 
 -- ---- letters
-abbrev pub N : ℕ → Item
+abbrev pub N : ℕ → Gated
 N i = always (num (asNumber i))
 
-abbrev pub n : Item
+abbrev pub n : Gated
 n = always (num dropped)
 
-abbrev pub flag : ℕ → Item
+abbrev pub flag : ℕ → Gated
 flag i = always (num (asFlag i))
 
-abbrev pub S : Item
+abbrev pub S : Gated
 S = always (str kept)
 
-abbrev pub s : Item
+abbrev pub s : Gated
 s = always (str passed)
 
-abbrev pub S* : ℕ → Item
+abbrev pub S* : ℕ → Gated
 S* i = always (set kept (asCount i))
 
-abbrev pub s* : Item
+abbrev pub s* : Gated
 s* = always (set passed dropped)
 
-abbrev pub P : ℕ → Item
+abbrev pub P : ℕ → Gated
 P i = always (pairs kept (asCount i))
 
-abbrev pub p : Item
+abbrev pub p : Gated
 p = always (pairs passed dropped)
 
-abbrev pub F : Item
+abbrev pub F : Gated
 F = always framed
 
-abbrev pub gate : ℕ → Item → Item
+abbrev pub gate : ℕ → Gated → Gated
 gate x (always w) = from x w
 gate x (from y w) = from (max x y) w
 gate x (below y w) = between x y w
 gate x (between y z w) = between (max x y) z w
 
 -- from 1.x all of these
-abbrev pub since : ℕ → List Item → List Item
+abbrev pub since : ℕ → List Gated → List Gated
 since x xs = map (gate x) xs
 
-abbrev pub until : ℕ → List What → List Item
+abbrev pub until : ℕ → List What → List Gated
 until x ws = map (below x) ws
 
 -- ---- kinds of answers, with their numbers: three types, so that no row names one of another call
@@ -140,35 +140,35 @@ skippedKind first = only OneString
 skippedKind paths = only CountOfPaths
 skippedKind overrides = byVersion 12 (only CountOfOverrides) (only EmptyText)
 
-abbrev pub countSlot : Skip → Slot
-countSlot nothing = dropped
-countSlot empty = dropped
-countSlot first = dropped
-countSlot paths = asNumber 0
-countSlot overrides = asNumber 0
+abbrev pub countTarget : Skip → Target
+countTarget nothing = dropped
+countTarget empty = dropped
+countTarget first = dropped
+countTarget paths = asNumber 0
+countTarget overrides = asNumber 0
 
 -- the same fields with every string in lower case; skipping stops before F
 abbrev pub lowered : Skip → What → List What
 lowered k (num i) = num dropped ∷ []
 lowered k (str r) = str passed ∷ []
-lowered k (set r i) = set passed (countSlot k) ∷ []
-lowered k (pairs r i) = pairs passed (countSlot k) ∷ []
+lowered k (set r i) = set passed (countTarget k) ∷ []
+lowered k (pairs r i) = pairs passed (countTarget k) ∷ []
 lowered k framed = []
 lowered k maybe = maybe ∷ []
 lowered k typed = typed ∷ []
 
-abbrev pub loweredItem : Skip → Item → List Item
-loweredItem k (always w) = map always (lowered k w)
-loweredItem k (from x w) = map (from x) (lowered k w)
-loweredItem k (below x w) = map (below x) (lowered k w)
-loweredItem k (between x y w) = map (between x y) (lowered k w)
+abbrev pub loweredGated : Skip → Gated → List Gated
+loweredGated k (always w) = map always (lowered k w)
+loweredGated k (from x w) = map (from x) (lowered k w)
+loweredGated k (below x w) = map (below x) (lowered k w)
+loweredGated k (between x y w) = map (between x y) (lowered k w)
 
-abbrev pub loweredAll : Skip → List Item → List Item
+abbrev pub loweredAll : Skip → List Gated → List Gated
 loweredAll k [] = []
-loweredAll k (x ∷ xs) = loweredItem k x ++ loweredAll k xs
+loweredAll k (x ∷ xs) = loweredGated k x ++ loweredAll k xs
 
 -- the string that is answered stays as it is
-abbrev pub skipped : Skip → List Item → List Item
+abbrev pub skipped : Skip → List Gated → List Gated
 skipped first (x ∷ xs) = x ∷ loweredAll first xs
 skipped first [] = []
 skipped nothing xs = loweredAll nothing xs
@@ -179,18 +179,18 @@ skipped overrides xs = loweredAll overrides xs
 -- ---- rows
 pub record Operation : Type 0 where
   pub code : ℕ
-  pub arguments : List Item
+  pub arguments : List Gated
   pub argumentsKind : Choice ArgumentsKind
   pub skip : Skip
-  pub skips : List Item
+  pub skips : List Gated
   pub reply : List Group
   pub replyKind : Choice ReplyKind
 
-abbrev pub op : ℕ → List Item → Choice ArgumentsKind → Skip → List Group → Choice ReplyKind → Operation
+abbrev pub op : ℕ → List Gated → Choice ArgumentsKind → Skip → List Group → Choice ReplyKind → Operation
 op c a ak k r rk = record { code = c; arguments = a; argumentsKind = ak; skip = k; skips = skipped k a; reply = r; replyKind = rk }
 
 -- skipping alone has these too
-abbrev pub skipsToo : List Item → Operation → Operation
+abbrev pub skipsToo : List Gated → Operation → Operation
 skipsToo xs o =
     record {
       code = o .code;
@@ -203,18 +203,18 @@ skipsToo xs o =
     }
 
 -- Info: S S S* N N, from 1.16 flag S* S
-abbrev pub info : List Item
+abbrev pub info : List Gated
 info = S ∷ S ∷ S* 0 ∷ N 0 ∷ N 1 ∷ since 16 (flag 2 ∷ S* 1 ∷ S ∷ [])
 
 abbrev pub pathInfo : Choice ReplyKind
 pathInfo = byVersion 16 (only PathInfo) (only PathInfoOld)
 
 -- Build result: N s; from 1.29 four N; from 1.37 twice a flag with N if true; from 1.28 p
-abbrev pub buildResult : List Item
+abbrev pub buildResult : List Gated
 buildResult = n ∷ s ∷ since 29 (n ∷ n ∷ n ∷ n ∷ []) ++ since 37 (always maybe ∷ always maybe ∷ []) ++ since 28 (p ∷ [])
 
 -- 19: ten N; from 1.10 N; from 1.12 N P
-abbrev pub options : List Item
+abbrev pub options : List Gated
 options = N 0 ∷ N 1 ∷ N 2 ∷ N 3 ∷ N 4 ∷ N 5 ∷ N 6 ∷ N 7 ∷ N 8 ∷ N 9 ∷ since 10 (N 10 ∷ []) ++ since 12 (N 11 ∷ P 0 ∷ [])
 
 -- replies

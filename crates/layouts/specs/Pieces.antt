@@ -5,11 +5,11 @@ use mathlib.Core.List.{List}
 use lib.ListN.{length}
 use lib.Dec.{ltb, leb, eqb}
 use Rattle.layouts.specs.Primitive.{pick, numberAt, limit, padOf, Version, cutShort, tooLong, Result, ok, refused}
-use Rattle.layouts.specs.Shape.{Slot, Role, Group, Tree, ask, say, frames, fail, stop, layout}
+use Rattle.layouts.specs.Shape.{Target, Role, Group, Tree, ask, say, frames, fail, stop, layout}
 
 -- a number with its place; a string, by start and length of its contents; one whose padding is cut short; a chunk, by start and length
 pub data Pieces : Type 0 where
-  number : Slot → (place value : ℕ) → Pieces → Pieces
+  number : Target → (place value : ℕ) → Pieces → Pieces
   text : Role → (start len : ℕ) → Pieces → Pieces
   half : Role → (start len : ℕ) → Pieces
   chunk : (start len : ℕ) → Pieces → Pieces
@@ -54,7 +54,7 @@ chunkOf size n at =
     (wrong cutShort at)
 
 -- ---- all of them
-unfoldable pub afterNum : Num → Slot → (at : ℕ) → (ℕ → Pieces) → Pieces
+unfoldable pub afterNum : Num → Target → (at : ℕ) → (ℕ → Pieces) → Pieces
 afterNum (value n) i at k = number i at n (k n)
 afterNum short i at k = fault cutShort at
 

@@ -5,7 +5,7 @@ use lib.ListN.{set, replicate}
 use lib.Dec.{ltb}
 use Rattle.layouts.specs.declared.Record.{Record}
 use Rattle.layouts.specs.Primitive.{pick, isTrue}
-use Rattle.layouts.specs.Shape.{Slot, dropped, asNumber, asFlag, asCount, asPresence, Role, passed, checked, kept, truth}
+use Rattle.layouts.specs.Shape.{Target, dropped, asNumber, asFlag, asCount, asPresence, Role, passed, checked, kept, truth}
 use Rattle.layouts.specs.Pieces.{Pieces, number, text, half, chunk, end, fault}
 
 abbrev pub blank : Record
@@ -28,7 +28,7 @@ withEntries r n = record { numbers = r .numbers; counts = r .counts; present = r
 abbrev pub withPayload : Record → ℕ → Record
 withPayload r n = record { numbers = r .numbers; counts = r .counts; present = r .present; entries = r .entries; payload = n }
 
-unfoldable pub noted : Record → Slot → ℕ → Record
+unfoldable pub noted : Record → Target → ℕ → Record
 noted r dropped x = r
 noted r (asNumber i) x = withNumber r i x
 noted r (asFlag i) x = withNumber r i (truth x)

@@ -8,7 +8,7 @@ use lib.ListN.{length}
 use Rattle.text.specs.Rfc3629.{Text}
 use Rattle.layouts.specs.declared.Record.{Record}
 use Rattle.layouts.specs.Primitive.{numberBytes, limit, padOf, cutShort, tooLong, badText, noEntryRoom, noPayloadRoom, clientMagicWrong, daemonMagicWrong, notLast}
-use Rattle.layouts.specs.Shape.{Slot, Role, passed, kept, Tree, ask, say, frames, fail, stop}
+use Rattle.layouts.specs.Shape.{Target, Role, passed, kept, Tree, ask, say, frames, fail, stop}
 use Rattle.layouts.specs.Record.{noted, isKept, entered, withPayload}
 use Rattle.layouts.specs.Judge.{isDecoded}
 use Rattle.layouts.specs.Handshake.{Talk, turn, lost}
@@ -17,7 +17,7 @@ use Rattle.layouts.specs.Handshake.{Talk, turn, lost}
 pub data Reads (slots room : ℕ) : Tree → (at : ℕ) → Record → List ℕ → (rest : Tree) → (at : ℕ) → Record → Type 0 where
   reads-none : (t : Tree) (at : ℕ) (r : Record) → Reads slots room t at r [] t at r
   -- N
-  reads-number : (i : Slot) (n at at' : ℕ) (k : ℕ → Tree) (t : Tree) (b : List ℕ) (r r' : Record) → n < 18446744073709551616
+  reads-number : (i : Target) (n at at' : ℕ) (k : ℕ → Tree) (t : Tree) (b : List ℕ) (r r' : Record) → n < 18446744073709551616
       → Reads slots room (k n) (at + 8) (noted r i n) b t at' r' → Reads slots room (ask i k) at r (numberBytes n ++ b) t at' r'
   -- S: if it is decoded its contents are text, and if it is kept it has a slot
   reads-text : (m : Role) (at at' : ℕ) (k : Unit {0} → Tree) (t : Tree) (c pad b : List ℕ) (r r' : Record) → length c ≤ limit → length pad ≡ padOf (length c)
@@ -33,7 +33,7 @@ pub data Reads (slots room : ℕ) : Tree → (at : ℕ) → Record → List ℕ 
 
 -- the piece that comes next, so many bytes further on, needs so many
 pub data Needs : Tree → List ℕ → (further bytes : ℕ) → Type 0 where
-  a-number : (i : Slot) (k : ℕ → Tree) (u : List ℕ) → Needs (ask i k) u 0 8
+  a-number : (i : Target) (k : ℕ → Tree) (u : List ℕ) → Needs (ask i k) u 0 8
   a-length : (m : Role) (k : Unit {0} → Tree) (u : List ℕ) → Needs (say m k) u 0 8
   contents : (m : Role) (k : Unit {0} → Tree) (n : ℕ) (u : List ℕ) → n ≤ limit → Needs (say m k) (numberBytes n ++ u) 8 n
   padding : (m : Role) (k : Unit {0} → Tree) (c u : List ℕ) → length c ≤ limit → (isDecoded m ≡ true → Text c)

@@ -5,12 +5,12 @@ use mathlib.Core.Bool.{Bool, true, false, not, _&&_}
 use Rattle.layouts.specs.Primitive.{Version, version, atLeast}
 
 -- what becomes of a number: nothing; it is number i of the record; the same, as a flag; count i; it says whether a group is there
-pub data Slot : Type 0 where
-  dropped : Slot
-  asNumber : ℕ → Slot
-  asFlag : ℕ → Slot
-  asCount : ℕ → Slot
-  asPresence : Slot
+pub data Target : Type 0 where
+  dropped : Target
+  asNumber : ℕ → Target
+  asFlag : ℕ → Target
+  asCount : ℕ → Target
+  asPresence : Target
 
 -- what becomes of a string: it is passed over; its text is checked; that and it has an entry
 pub data Role : Type 0 where
@@ -20,30 +20,30 @@ pub data Role : Type 0 where
 
 -- a field: N; S; S*; P; F; a flag with N if it is true; a type with N if it is 0 and else s
 pub data What : Type 0 where
-  num : Slot → What
+  num : Target → What
   str : Role → What
-  set : Role → Slot → What
-  pairs : Role → Slot → What
+  set : Role → Target → What
+  pairs : Role → Target → What
   framed : What
   maybe : What
   typed : What
 
 -- always there; there from version 1.x on; there below it; there from 1.x on and below 1.y
-pub data Item : Type 0 where
-  always : What → Item
-  from : ℕ → What → Item
-  below : ℕ → What → Item
-  between : (x y : ℕ) → What → Item
+pub data Gated : Type 0 where
+  always : What → Gated
+  from : ℕ → What → Gated
+  below : ℕ → What → Gated
+  between : (x y : ℕ) → What → Gated
 
 -- a run of fields: once; once if a flag is true; as often as a count says
 pub data Group : Type 0 where
-  once : List Item → Group
-  opt : Slot → List Item → Group
-  many : Slot → List Item → Group
+  once : List Gated → Group
+  opt : Target → List Gated → Group
+  many : Target → List Gated → Group
 
 -- ask for a number; say a string; frames; fail; stop. The functions keep what follows from being computed before it is asked for
 pub data Tree : Type 0 where
-  ask : Slot → (ℕ → Tree) → Tree
+  ask : Target → (ℕ → Tree) → Tree
   say : Role → (Unit {0} → Tree) → Tree
   frames : (Unit {0} → Tree) → Tree
   fail : (which place : ℕ) → Tree
@@ -78,13 +78,13 @@ field framed k = frames k
 field maybe k = ask dropped (λ n. ifTrue n k)
 field typed k = ask dropped (λ n. byType n k)
 
-abbrev pub there : Version → Item → Bool
+abbrev pub there : Version → Gated → Bool
 there v (always w) = true
 there v (from x w) = atLeast v (version 1 x)
 there v (below x w) = not (atLeast v (version 1 x))
 there v (between x y w) = atLeast v (version 1 x) && not (atLeast v (version 1 y))
 
-abbrev pub what : Item → What
+abbrev pub what : Gated → What
 what (always w) = w
 what (from x w) = w
 what (below x w) = w
@@ -95,13 +95,13 @@ unfolding field
 gated true w k = field w k
 gated false w k = k tt
 
-unfoldable pub fields : Version → List Item → (Unit {0} → Tree) → Tree
+unfoldable pub fields : Version → List Gated → (Unit {0} → Tree) → Tree
 unfolding gated
 fields v [] k = k tt
 fields v (x ∷ is) k = gated (there v x) (what x) (λ u. fields v is k)
 
 -- the fields n times
-unfoldable pub repeated : ℕ → Version → List Item → (Unit {0} → Tree) → Tree
+unfoldable pub repeated : ℕ → Version → List Gated → (Unit {0} → Tree) → Tree
 unfolding fields
 repeated zero v is k = k tt
 repeated (suc n) v is k = fields v is (λ u. repeated n v is k)

@@ -25,7 +25,8 @@ use Rattle.pieces.specs.Pieces.{Span}
 use Rattle.walk_judge.specs.Judged.{answerAs}
 use Rattle.lintelow_answers.specs.Answers.{ended, stringRead, written}
 use Rattle.lintelow_answers.specs.Block.{numbersOf, guarded, numberOf, blockAfter, numberPut, blockPut}
-use Rattle.lintelow.specs.RoundTrips.{Has, inBlock, endIn, startIn, lengthIn, countIn, StringReported, OutputReported}
+use Rattle.lintelow.specs.Demands.{inBlock, endTold, startTold, lengthTold, countTold}
+use Rattle.lintelow.specs.RoundTrips.{Has, StringReported, OutputReported}
 use Rattle.lintelow.proofs.TripLaws.{StringTrip}
 
 -- ---- numbers one after the other, as they are found again
@@ -95,7 +96,7 @@ module _ (block after lent out b : List ℕ) (r : ℕ) (o : Result ℕ) (p : Wri
   pub write-out : 200 ≤ length block → out ≡ lentAfter o b lent
   write-out h = p .1 .1 ∙ ap (λ (x : Result ℕ). lentAfter x b lent) (guarded-long block o h)
 
-  pub write-done : (n : ℕ) → o ≡ ok n → 200 ≤ length block → n < 18446744073709551616 → (r ≡ 0) × (endIn after ≡ n)
+  pub write-done : (n : ℕ) → o ≡ ok n → 200 ≤ length block → n < 18446744073709551616 → (r ≡ 0) × (endTold after ≡ n)
   write-done n e h g =
       let f = ap written e in
       (called-zero block after r (written o) (p .0) (p .1 .0) _ f h, called-at block after r (written o) (p .0) (p .1 .0) _ f h 4 (omega arith) g)
@@ -109,7 +110,7 @@ module _ (block after lent out b : List ℕ) (r : ℕ) (o : Result ℕ) (p : Wri
 -- a reader of a string
 module _ (block after : List ℕ) (r : ℕ) (o : Result Span) (p : r ≡ numberOf block (answerAs (stringRead o))) (p' : after ≡ blockAfter block (answerAs (stringRead o))) where
   pub read-done : (x : Span) → o ≡ ok x → 200 ≤ length block → x .start < 18446744073709551616 → x .len < 18446744073709551616 → x .ends < 18446744073709551616
-      → (r ≡ 0) × (startIn after ≡ x .start) × (lengthIn after ≡ x .len) × (endIn after ≡ x .ends)
+      → (r ≡ 0) × (startTold after ≡ x .start) × (lengthTold after ≡ x .len) × (endTold after ≡ x .ends)
   read-done x e h a b c =
       let f = ap stringRead e in (
         called-zero block after r (stringRead o) p p' _ f h,
@@ -127,7 +128,7 @@ module _ (block after : List ℕ) (r : ℕ) (o : Result Span) (p : r ≡ numberO
 -- a reader of a set
 module _ (block after : List ℕ) (r : ℕ) (o : Result Ended) (p : r ≡ numberOf block (answerAs (ended o))) (p' : after ≡ blockAfter block (answerAs (ended o))) where
   pub set-done : (m e : ℕ) → o ≡ ok (record { found = withEntries (withCount blank 0 m) m; ends = e }) → 200 ≤ length block → m < 18446744073709551616 → e < 18446744073709551616
-      → (r ≡ 0) × (countIn after ≡ m) × (endIn after ≡ e)
+      → (r ≡ 0) × (countTold after ≡ m) × (endTold after ≡ e)
   set-done m e f h a b =
       let g = ap ended f in
       (called-zero block after r (ended o) p p' _ g h, called-at block after r (ended o) p p' _ g h 20 (omega arith) a, called-at block after r (ended o) p p' _ g h 4 (omega arith) b)
@@ -150,8 +151,8 @@ module _ (c lent out report reported s block answer : List ℕ) (at w r : ℕ) (
     (q : ReadBy s block answer r o') where
   pub exported-there : Numbered o → ((n : ℕ) → o ≡ ok n → length (stringBytes c) ≡ n)
       → ((n : ℕ) → o ≡ ok n → out ≡ lentAfter o (stringBytes c) lent → Has s at n out → StringTrip c s at n o')
-      → w ≡ 0 → length c ≤ limit → Has s at (endIn reported) out → 200 ≤ length block
-      → StringReported r answer s c (at + endIn reported)
+      → w ≡ 0 → length c ≤ limit → Has s at (endTold reported) out → 200 ≤ length block
+      → StringReported r answer s c (at + endTold reported)
   exported-there numbered told trip wrote small has long =
       let t = write-told report reported lent out (stringBytes c) w o p numbered wrote in
       let n = t .1 in
@@ -165,8 +166,8 @@ module _ (c lent out report reported s block answer : List ℕ) (at w r : ℕ) (
   pub exported-back : Numbered o' → ((x : Span) → o' ≡ ok x → (x .start + x .len ≤ x .ends) × (x .ends ≤ length s))
       → ((x : Span) → o' ≡ ok x → Zeros s (x .start + x .len) (x .ends) → c ≡ take (x .len) (drop (x .start) s) → x .ends - at ≤ length lent → out ≡ lentAfter o (stringBytes c) lent
       → (o ≡ ok (x .ends - at)) × Has s at (x .ends - at) out)
-      → r ≡ 0 → Zeros s (startIn answer + lengthIn answer) (endIn answer) → c ≡ take (lengthIn answer) (drop (startIn answer) s) → endIn answer - at ≤ length lent → 200 ≤ length report
-      → OutputReported w reported out s at (endIn answer - at)
+      → r ≡ 0 → Zeros s (startTold answer + lengthTold answer) (endTold answer) → c ≡ take (lengthTold answer) (drop (startTold answer) s) → endTold answer - at ≤ length lent → 200 ≤ length report
+      → OutputReported w reported out s at (endTold answer - at)
   exported-back numbered within again read zeroed same room long =
       let t = read-told block answer r o' (q .0) (q .1 .0) numbered read in
       let x = t .1 in

@@ -30,7 +30,8 @@ use Rattle.lintelow.proofs.reads.lintelow_read_string.Kinds as read-str
 use Rattle.lintelow.proofs.reads.lintelow_read_bytes.Reads as read-bytes
 use Rattle.lintelow.proofs.reads.lintelow_read_string_set.Reads as read-string-set
 use Rattle.lintelow.proofs.reads.lintelow_read_string_set.Kinds as read-string-set-kinds
-use Rattle.lintelow.specs.RoundTrips.{Has, Limited, SameStrings, endIn, startIn, lengthIn, countIn, StringReported, OutputReported}
+use Rattle.lintelow.specs.Demands.{endTold, startTold, lengthTold, countTold}
+use Rattle.lintelow.specs.RoundTrips.{Has, Limited, SameStrings, StringReported, OutputReported}
 use Rattle.lintelow.proofs.TripLaws.{bytes-trip, text-trip, set-trip, set-room, bytes-again, text-again, set-again, bytes-within, text-within}
 use Rattle.lintelow.proofs.BlockLaws.{guarded-long, entries-in, WrittenBy, write-out, write-done, write-told, set-done, read-set-told, exported-there, exported-back}
 
@@ -67,32 +68,32 @@ module _ (κs : Lfts 3) (a : Dens κs write-string-kinds.ps) (w : ℕ) (x : AtEx
   answer = now (x′ .1 .1 .0)
 
   -- a string was written, and the stream has it at the place: with a block, the contents are answered, and the end behind them
-  module _ (wrote : w ≡ 0) (small : length contents ≤ limit) (has : Has stream place (endIn reported) output) (long : 200 ≤ length block) where
+  module _ (wrote : w ≡ 0) (small : length contents ≤ limit) (has : Has stream place (endTold reported) output) (long : 200 ≤ length block) where
     -- a string written by us reads back the same
-    pub string-read-back : write-string.Post κs a w x → read-string.Post κs′ a′ r x′ → StringReported r answer stream contents (place + endIn reported)
+    pub string-read-back : write-string.Post κs a w x → read-string.Post κs′ a′ r x′ → StringReported r answer stream contents (place + endTold reported)
     string-read-back p q =
         exported-there contents lent output report reported stream block answer place w r (writeString contents lent) (readText stream place) p q (string-numbered contents lent)
         (λ n e. string-told contents lent n e .1) (λ n e f h. text-trip contents stream place n small lent output h e f) wrote small has long
 
     -- and so do any bytes
-    pub bytes-read-back : write-bytes.Post κs a w x → read-bytes.Post κs′ a′ r x′ → StringReported r answer stream contents (place + endIn reported)
+    pub bytes-read-back : write-bytes.Post κs a w x → read-bytes.Post κs′ a′ r x′ → StringReported r answer stream contents (place + endTold reported)
     bytes-read-back p q =
         exported-there contents lent output report reported stream block answer place w r (writing (stringBytes contents) lent) (readBytes stream place) p q
         (writing-numbered (stringBytes contents) lent) (λ n e. writing-told (stringBytes contents) lent n e) (λ n e f h. bytes-trip contents stream place n small lent output h e f)
         wrote small has long
 
   -- a string was read, and its padding is zero: its contents are written again with room and a block, and the output begins with the string's own bytes
-  module _ (read : r ≡ 0) (zeroed : Zeros stream (startIn answer + lengthIn answer) (endIn answer)) (same : contents ≡ take (lengthIn answer) (drop (startIn answer) stream))
-      (room : endIn answer - place ≤ length lent) (long : 200 ≤ length report) where
+  module _ (read : r ≡ 0) (zeroed : Zeros stream (startTold answer + lengthTold answer) (endTold answer)) (same : contents ≡ take (lengthTold answer) (drop (startTold answer) stream))
+      (room : endTold answer - place ≤ length lent) (long : 200 ≤ length report) where
     -- a string that reads, written again, gives the same bytes
-    pub string-written-again : read-string.Post κs′ a′ r x′ → write-string.Post κs a w x → OutputReported w reported output stream place (endIn answer - place)
+    pub string-written-again : read-string.Post κs′ a′ r x′ → write-string.Post κs a w x → OutputReported w reported output stream place (endTold answer - place)
     string-written-again p q =
         exported-back contents lent output report reported stream block answer place w r (writeString contents lent) (readText stream place) q p
         (onward-numbered (readString stream place) _ (read-numbered stream place) (λ e. tt)) (text-within stream place)
         (λ y e z f g h. text-again stream place (p .1 .1) y z contents lent output f g e h) read zeroed same room long
 
     -- and so do any bytes
-    pub bytes-written-again : read-bytes.Post κs′ a′ r x′ → write-bytes.Post κs a w x → OutputReported w reported output stream place (endIn answer - place)
+    pub bytes-written-again : read-bytes.Post κs′ a′ r x′ → write-bytes.Post κs a w x → OutputReported w reported output stream place (endTold answer - place)
     bytes-written-again p q =
         exported-back contents lent output report reported stream block answer place w r (writing (stringBytes contents) lent) (readBytes stream place) q p
         (onward-numbered (skipString stream place) _ (skip-numbered stream passed place) (λ e. tt)) (bytes-within stream place)
@@ -144,8 +145,8 @@ module _ (κs : Lfts 4) (a : Dens κs write-string-set-kinds.ps) (w : ℕ) (x : 
   -- a set written by us reads back the same:
   -- it was written, and the stream has it at the place; with a slot for each string and a block, so many strings are answered and the end behind them, and
   -- each is the one that was written
-  pub set-read-back : w ≡ 0 → Limited bytesGiven (entriesIn entriesGiven) count → Has setStream setPlace (endIn setReported) setOutput → count ≤ length slots / 16 → 200 ≤ length setBlock
-      → (r ≡ 0) × (countIn setAnswer ≡ count) × (endIn setAnswer ≡ setPlace + endIn setReported)
+  pub set-read-back : w ≡ 0 → Limited bytesGiven (entriesIn entriesGiven) count → Has setStream setPlace (endTold setReported) setOutput → count ≤ length slots / 16 → 200 ≤ length setBlock
+      → (r ≡ 0) × (countTold setAnswer ≡ count) × (endTold setAnswer ≡ setPlace + endTold setReported)
       × SameStrings count setStream (entriesIn entriesRead) bytesGiven (entriesIn entriesGiven)
   set-read-back wrote small has room long =
       let es = entriesIn entriesGiven in
@@ -173,9 +174,9 @@ module _ (κs : Lfts 4) (a : Dens κs write-string-set-kinds.ps) (w : ℕ) (x : 
   -- a set that reads, written again, gives the same bytes:
   -- it was read, and its padding is zero; its own strings, by its entries at exit, are written again with room and a block, and the output begins with the
   -- set's own bytes
-  pub set-written-again : r ≡ 0 → ZeroPadded setStream (setPieces setStream setPlace) → bytesGiven ≡ setStream → entriesGiven ≡ entriesRead → count ≡ countIn setAnswer
-      → endIn setAnswer - setPlace ≤ length setLent → 200 ≤ length setReport
-      → OutputReported w setReported setOutput setStream setPlace (endIn setAnswer - setPlace)
+  pub set-written-again : r ≡ 0 → ZeroPadded setStream (setPieces setStream setPlace) → bytesGiven ≡ setStream → entriesGiven ≡ entriesRead → count ≡ countTold setAnswer
+      → endTold setAnswer - setPlace ≤ length setLent → 200 ≤ length setReport
+      → OutputReported w setReported setOutput setStream setPlace (endTold setAnswer - setPlace)
   set-written-again read zeroed bytes entries many room long =
       let es = entriesIn entriesGiven in
       let o = writeStringSet bytesGiven es count setLent in

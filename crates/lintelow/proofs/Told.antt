@@ -10,7 +10,7 @@ use lib.Dec.{leb}
 use lib.Seq.{drop-append-seam}
 use borrow.Author.Tests.{lt-ltb}
 use Rattle.layouts.specs.Primitive.{pick, littleAt, numberAt, numberBytes, Version, outputFull, Result, ok, refused}
-use Rattle.layouts.specs.Shape.{Slot, Role, Tree, ask, say, frames, fail, stop, layout}
+use Rattle.layouts.specs.Shape.{Target, Role, Tree, ask, say, frames, fail, stop, layout}
 use Rattle.layouts.specs.Pieces.{Pieces, Num, Text, Chunk, afterNum, afterText, afterChunk, chunks, run, skipOf}
 use Rattle.layouts.specs.Record.{isKept}
 use Rattle.layouts.specs.Judge.{entry, entriesOf, lentAfter}
@@ -115,7 +115,7 @@ abbrev Numbered : Pieces → Type 0
 Numbered p = 0 < whichOf (skipOf p)
 
 module _ (size n at : ℕ) where
-  num-numbered : (i : Slot) {m : Num} (k : ℕ → Pieces) → NumView size n at m → Numbered (k n) → Numbered (afterNum m i at k)
+  num-numbered : (i : Target) {m : Num} (k : ℕ → Pieces) → NumView size n at m → Numbered (k n) → Numbered (afterNum m i at k)
   unfolding afterNum skipOf
   num-numbered i k (is-value h) g = g
   num-numbered i k (is-short h) g = omega arith

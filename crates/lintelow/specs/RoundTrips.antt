@@ -1,14 +1,15 @@
 -- What the theorems about round trips speak of: an output in a stream, strings by their entries, and what an answer says, by itself or in a block.
-use Prim.Native.Nat.{ℕ, _*_, _≤_, _<_}
+use Prim.Native.Nat.{ℕ, _≤_, _<_}
 use mathlib.Core.Path.{_≡_}
 use mathlib.Core.List.{List}
 use lib.ListN.{length, take, drop}
-use Rattle.layouts.specs.Primitive.{numberAt, limit, ok}
+use Rattle.layouts.specs.Primitive.{limit, ok}
 use Rattle.layouts.specs.Writers.{viewOf, partOf}
 use Rattle.writers_output.specs.declared.Written.{Written}
 use Rattle.writers_output.specs.declared.Written.the-variants.{Length}
 use Rattle.wire.specs.declared.Spanned.{Spanned}
 use Rattle.wire.specs.declared.Spanned.the-variants.{Contents}
+use Rattle.lintelow.specs.Demands.{endTold, startTold, lengthTold}
 
 -- the stream has the first n bytes of the output at a place
 abbrev pub Has : List ℕ → (at n : ℕ) → (output : List ℕ) → Type 0
@@ -32,26 +33,8 @@ abbrev pub OutputAnswered : Written → (output s : List ℕ) → (at n : ℕ) �
 OutputAnswered w out s at n = (w ≡ Length n) × Has s at n out
 
 -- ---- the same of the exported calls: 0 is returned, and the numbers stand in the block
-abbrev pub inBlock : (i : ℕ) → (block : List ℕ) → ℕ
-inBlock i b = numberAt b (8 * i)
-
--- the end, and of a writer the length of its output
-abbrev pub endIn : (block : List ℕ) → ℕ
-endIn b = inBlock 4 b
-
--- start and length of one string: numbers 1 and 2 of the record
-abbrev pub startIn : (block : List ℕ) → ℕ
-startIn b = inBlock 9 b
-
-abbrev pub lengthIn : (block : List ℕ) → ℕ
-lengthIn b = inBlock 10 b
-
--- how many strings a set has: count 0
-abbrev pub countIn : (block : List ℕ) → ℕ
-countIn b = inBlock 20 b
-
 abbrev pub StringReported : (returned : ℕ) → (block s contents : List ℕ) → (ends : ℕ) → Type 0
-StringReported r b s c e = (r ≡ 0) × (endIn b ≡ e) × (take (lengthIn b) (drop (startIn b) s) ≡ c)
+StringReported r b s c e = (r ≡ 0) × (endTold b ≡ e) × (take (lengthTold b) (drop (startTold b) s) ≡ c)
 
 abbrev pub OutputReported : (returned : ℕ) → (block output s : List ℕ) → (at n : ℕ) → Type 0
-OutputReported w b out s at n = (w ≡ 0) × (endIn b ≡ n) × Has s at n out
+OutputReported w b out s at n = (w ≡ 0) × (endTold b ≡ n) × Has s at n out

@@ -5,7 +5,7 @@ use mathlib.Core.List.{List}
 use lib.ListN.{length}
 use native.Mathlib.Omega.{arith}
 use Rattle.layouts.specs.Primitive.{numberAt}
-use Rattle.layouts.specs.Shape.{Slot, Role, Tree, ask, say, frames}
+use Rattle.layouts.specs.Shape.{Target, Role, Tree, ask, say, frames}
 use Rattle.layouts.specs.Pieces.{Pieces, number, chunk, fault, Num, Text, whole, cut, Chunk, part, last, wrong, textOf, chunkOf, afterNum, afterText, run}
 use Rattle.layouts.specs.Calls.{peekNumber}
 use Rattle.layouts.proofs.Views.{ChunkView, no-size, is-last, too-large, no-bytes, is-part, chunk-view}
@@ -22,15 +22,15 @@ use Rattle.pieces.proofs.Found.{textRead, text-told, chunkRead, chunk-t
 module _ (s : List ℕ) (at : ℕ) where
   -- ---- a number
   module _ (m : Number) (e : numRead m ≡ peekNumber s at) where
-    ask-as : (m' : Number) → m ≡ m' → (i : Slot) (k : ℕ → Tree) → run (ask i k) s at ≡ afterNum (numRead m') i at (λ n. run (k n) s (at + 8))
+    ask-as : (m' : Number) → m ≡ m' → (i : Target) (k : ℕ → Tree) → run (ask i k) s at ≡ afterNum (numRead m') i at (λ n. run (k n) s (at + 8))
     unfolding run
     ask-as m' q i k = ap (λ (x : Num). afterNum x i at (λ n. run (k n) s (at + 8))) (sym e ∙ ap numRead q)
 
-    pub ask-cut : m ≡ Short → (i : Slot) (k : ℕ → Tree) → run (ask i k) s at ≡ fault 1 at
+    pub ask-cut : m ≡ Short → (i : Target) (k : ℕ → Tree) → run (ask i k) s at ≡ fault 1 at
     unfolding afterNum
     ask-cut q i k = ask-as Short q i k
 
-    pub ask-found : (n : ℕ) → m ≡ Value n → (i : Slot) (k : ℕ → Tree) → run (ask i k) s at ≡ number i at n (run (k n) s (at + 8))
+    pub ask-found : (n : ℕ) → m ≡ Value n → (i : Target) (k : ℕ → Tree) → run (ask i k) s at ≡ number i at n (run (k n) s (at + 8))
     unfolding afterNum
     ask-found n q i k = ask-as (Value n) q i k
 

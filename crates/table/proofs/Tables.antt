@@ -10,7 +10,7 @@ use native.Mathlib.Decide.{decLt}
 use Rattle.table.specs.declared.Field.{Field}
 use Rattle.table.specs.declared.PackedGroup.{PackedGroup}
 use Rattle.table.specs.Packed.{size, packedTable}
-use Rattle.table.specs.Table.{fieldOf, packedGroup, fieldAt, groupAt, unlessEnd, consItem, items, itemsAt, consGroup, groupsIn, groupsAt}
+use Rattle.table.specs.Table.{fieldOf, packedGroup, fieldAt, groupAt, unlessEnd, consGated, items, itemsAt, consGroup, groupsIn, groupsAt}
 
 -- i is none of the first n numbers, as the last arm of a match is told
 abbrev pub Misses : ℕ → ℕ → Type 0
@@ -27,16 +27,16 @@ getD-past (x ∷ l) zero d h = absurd (not-suc-le-zero h)
 getD-past (x ∷ l) (suc i) d h = getD-past l i d (le-of-suc-le-suc h)
 
 -- ---- one field, one group at a time
-items-at : (l : List ℕ) (i : ℕ) → items (drop i l) ≡ consItem (fieldOf (getD l i 0)) (λ u. items (drop (suc i) l))
-unfolding items consItem unlessEnd
+items-at : (l : List ℕ) (i : ℕ) → items (drop i l) ≡ consGated (fieldOf (getD l i 0)) (λ u. items (drop (suc i) l))
+unfolding items consGated unlessEnd
 items-at [] zero = refl
 items-at [] (suc i) = refl
 items-at (f ∷ l) zero = refl
 items-at (f ∷ l) (suc i) = items-at l i
 
-pub items-step : (pc : ℕ) → itemsAt pc ≡ consItem (fieldAt pc) (λ u. itemsAt (pc + 1))
+pub items-step : (pc : ℕ) → itemsAt pc ≡ consGated (fieldAt pc) (λ u. itemsAt (pc + 1))
 unfolding itemsAt fieldAt
-items-step pc = items-at packedTable pc ∙ ap (λ (i : ℕ). consItem (fieldAt pc) (λ u. items (drop i packedTable))) (sym (add-one pc))
+items-step pc = items-at packedTable pc ∙ ap (λ (i : ℕ). consGated (fieldAt pc) (λ u. items (drop i packedTable))) (sym (add-one pc))
 
 groups-at : (l : List ℕ) (i : ℕ) → groupsIn (drop i l) ≡ consGroup (packedGroup (getD l i 0)) (λ u. groupsIn (drop (suc i) l))
 unfolding groupsIn consGroup unlessEnd

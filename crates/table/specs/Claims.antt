@@ -13,7 +13,7 @@ use Rattle.table.specs.Numbered.{Numbered, just}
 use Rattle.table.specs.Numbered as K
 use Rattle.table.specs.Packed.{packedTable, rows}
 use Rattle.table.specs.Packed as P
-use Rattle.table.specs.Table.{roleOf, slotOf, whatOf, itemOf, unlessEnd, consItem, items, itemsAt, groupOf, consGroup, groupsIn, groupsAt, numberedOf}
+use Rattle.table.specs.Table.{roleOf, targetOf, whatOf, itemOf, unlessEnd, consGated, items, itemsAt, groupOf, consGroup, groupsIn, groupsAt, numberedOf}
 
 -- kinds as the table has them
 abbrev pub numbered : Kinds → Numbered
@@ -57,7 +57,7 @@ wanted o =
     }
 
 pub rows-say : map said rows ≡ map wanted operations
-unfolding operations groupsAt groupsIn consGroup groupOf itemsAt items consItem unlessEnd itemOf whatOf slotOf roleOf packedTable numberedOf
+unfolding operations groupsAt groupsIn consGroup groupOf itemsAt items consGated unlessEnd itemOf whatOf targetOf roleOf packedTable numberedOf
 rows-say = refl
 
 -- the other layouts
@@ -82,7 +82,7 @@ pub record Others : Type 0 where
   pub number : aNumber ≡ groupsAt P.oneNumber
 
 pub others : Others
-unfolding messageOf errorBlock groupsAt groupsIn consGroup groupOf itemsAt items consItem unlessEnd itemOf whatOf slotOf roleOf packedTable
+unfolding messageOf errorBlock groupsAt groupsIn consGroup groupOf itemsAt items consGated unlessEnd itemOf whatOf targetOf roleOf packedTable
 others =
     record {
       next = refl;

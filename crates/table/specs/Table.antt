@@ -5,7 +5,7 @@ use mathlib.Core.Bool.{Bool, true, false}
 use lib.ListN.{getD, drop}
 use lib.Dec.{ltb, eqb}
 use Rattle.layouts.specs.Primitive.{pick, Version, version}
-use Rattle.layouts.specs.Shape.{Slot, dropped, asNumber, asFlag, asCount, asPresence, Role, passed, checked, kept, What, num, str, set, pairs, framed, maybe, typed, Item, always, from, below, Group, once, opt, many}
+use Rattle.layouts.specs.Shape.{Target, dropped, asNumber, asFlag, asCount, asPresence, Role, passed, checked, kept, What, num, str, set, pairs, framed, maybe, typed, Gated, always, from, below, Group, once, opt, many}
 use Rattle.table.specs.declared.Field.{Field}
 use Rattle.table.specs.declared.PackedGroup.{PackedGroup}
 use Rattle.table.specs.declared.Row.{Row}
@@ -15,10 +15,10 @@ use Rattle.table.specs.Numbered.{Numbered, just, numberedValue}
 use Rattle.table.specs.Packed.{packedTable, rows, firstCode, kindList}
 
 abbrev pub fieldOf : ℕ → Field
-fieldOf x = record { kind = x % 16; role = x / 16 % 4; slot = x / 64 % 64; gate = x / 4096 % 4; minor = x / 16384 % 256 }
+fieldOf x = record { kind = x % 16; role = x / 16 % 4; target = x / 64 % 64; gate = x / 4096 % 4; minor = x / 16384 % 256 }
 
 abbrev pub packedGroup : ℕ → PackedGroup
-packedGroup x = record { kind = x % 4; slot = x / 4 % 64; start = x / 256 }
+packedGroup x = record { kind = x % 4; target = x / 4 % 64; start = x / 256 }
 
 unfoldable pub fieldAt : ℕ → Field
 fieldAt pc = fieldOf (getD packedTable pc 0)
@@ -30,19 +30,19 @@ groupAt i = packedGroup (getD packedTable i 0)
 unfoldable pub roleOf : ℕ → Role
 roleOf r = pick (eqb r 0) passed (pick (eqb r 1) checked kept)
 
-unfoldable pub slotOf : ℕ → Slot
-slotOf i =
+unfoldable pub targetOf : ℕ → Target
+targetOf i =
     pick (eqb i 0) dropped
     (pick (ltb i 13) (asNumber (i - 1)) (pick (ltb i 25) (asFlag (i - 13)) (pick (ltb i 28) (asCount (i - 25)) asPresence)))
 
 -- ---- a field, and the fields of a group up to its end
-unfoldable pub whatOf : (kind : ℕ) → Role → Slot → What
+unfoldable pub whatOf : (kind : ℕ) → Role → Target → What
 whatOf kind r i =
     pick (eqb kind 2) (str r)
     (pick (eqb kind 5) framed
     (pick (eqb kind 3) (set r i) (pick (eqb kind 4) (pairs r i) (pick (eqb kind 6) maybe (pick (eqb kind 7) typed (num i))))))
 
-unfoldable pub itemOf : (gate minor : ℕ) → What → Item
+unfoldable pub itemOf : (gate minor : ℕ) → What → Gated
 itemOf gate minor w = pick (eqb gate 0) (always w) (pick (eqb gate 1) (from minor w) (below minor w))
 
 -- what follows an end is not computed
@@ -50,23 +50,23 @@ unfoldable pub unlessEnd : {A : Type 0} → (ends : Bool) → A → (Unit {0} �
 unlessEnd true x rest = []
 unlessEnd false x rest = x ∷ rest tt
 
-unfoldable pub consItem : Field → (Unit {0} → List Item) → List Item
-unfolding whatOf itemOf roleOf slotOf
-consItem f rest = unlessEnd (eqb (f .kind) 0) (itemOf (f .gate) (f .minor) (whatOf (f .kind) (roleOf (f .role)) (slotOf (f .slot)))) rest
+unfoldable pub consGated : Field → (Unit {0} → List Gated) → List Gated
+unfolding whatOf itemOf roleOf targetOf
+consGated f rest = unlessEnd (eqb (f .kind) 0) (itemOf (f .gate) (f .minor) (whatOf (f .kind) (roleOf (f .role)) (targetOf (f .target)))) rest
 
-unfoldable pub items : List ℕ → List Item
+unfoldable pub items : List ℕ → List Gated
 items [] = []
-items (x ∷ xs) = consItem (fieldOf x) (λ u. items xs)
+items (x ∷ xs) = consGated (fieldOf x) (λ u. items xs)
 
-unfoldable pub itemsAt : ℕ → List Item
+unfoldable pub itemsAt : ℕ → List Gated
 itemsAt pc = items (drop pc packedTable)
 
 -- ---- a group, and the groups of a layout up to its end
-unfoldable pub groupOf : (kind : ℕ) → Slot → List Item → Group
+unfoldable pub groupOf : (kind : ℕ) → Target → List Gated → Group
 groupOf kind i is = pick (eqb kind 2) (opt i is) (pick (eqb kind 3) (many i is) (once is))
 
 unfoldable pub consGroup : PackedGroup → (Unit {0} → List Group) → List Group
-consGroup r rest = unlessEnd (eqb (r .kind) 0) (groupOf (r .kind) (slotOf (r .slot)) (itemsAt (r .start))) rest
+consGroup r rest = unlessEnd (eqb (r .kind) 0) (groupOf (r .kind) (targetOf (r .target)) (itemsAt (r .start))) rest
 
 unfoldable pub groupsIn : List ℕ → List Group
 groupsIn [] = []

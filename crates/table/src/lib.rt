@@ -25,7 +25,7 @@ pub use places::STRING_SET;
 pub struct Field {
     pub kind: u8,
     pub role: u8,
-    pub slot: u8,
+    pub target: u8,
     pub gate: u8,
     pub minor: u8,
 }
@@ -33,7 +33,7 @@ pub struct Field {
 // A group of fields: its kind (0 ends a layout), where its flag or count goes, and the place of its first field.
 pub struct PackedGroup {
     pub kind: u8,
-    pub slot: u8,
+    pub target: u8,
     pub start: usize,
 }
 

@@ -10,7 +10,7 @@ use native.Mathlib.Decide.{decLt}
 use borrow.Author.Tests.{ne-eqb}
 use Rattle.layouts.specs.Primitive.{Version}
 use Rattle.layouts.specs.declared.Refusal.{Refusal}
-use Rattle.layouts.specs.Shape.{Slot, Role, passed, checked, kept, Tree, ask, say, frames, strings, units, stop, field, What}
+use Rattle.layouts.specs.Shape.{Target, Role, passed, checked, kept, Tree, ask, say, frames, strings, units, stop, field, What}
 use Rattle.layouts.specs.Pieces.{Pieces, number, text, half, chunk, end, fault, run}
 use Rattle.layouts.specs.Judge.{entriesOf, payloadOf}
 use Rattle.layouts.specs.Calls.{peekNumber}
@@ -19,10 +19,10 @@ use Rattle.numbers.specs.declared.Number.the-variants.{Value, Short}
 use Rattle.writers_output.specs.Numbers.{bytesOf}
 use Rattle.pieces.specs.Pieces.{numRead}
 use Rattle.pieces.proofs.Nodes.{ask-cut, ask-found}
-use Rattle.table.specs.Table.{roleOf, slotOf, whatOf}
+use Rattle.table.specs.Table.{roleOf, targetOf, whatOf}
 use Rattle.walk_strings.specs.Strings.{series, stays, textIf, chunkIf, bare}
 use Rattle.walk_items.specs.declared.Item.{Item}
-use Rattle.walk_items.specs.Items.{versionOf, layoutTree, piecesOf, restTree, onto, itemTree, slotFor, afterNumber, rank, Falls}
+use Rattle.walk_items.specs.Items.{versionOf, layoutTree, piecesOf, restTree, onto, itemTree, targetFor, afterNumber, rank, Falls}
 use Rattle.walk_items.proofs.Trees.{field-item}
 use Rattle.walk_items.proofs.Fields.{is-text, is-framed, is-number, after-set, after-pairs}
 use Rattle.walk_pass.specs.declared.Stop.{Stop}
@@ -47,9 +47,9 @@ role-kept role h = rw (ne-eqb role 0 (λ e. omega arith), ne-eqb role 1 (λ e. o
 -- ---- a field that is filled in
 module _ (s : List ℕ) (x₀ : Rooms) (at kind i : ℕ) (k : Unit {0} → Tree) (x : Rooms) (p : Pieces) where
   abbrev Here : Type 0
-  Here = Fills s x₀ (run (field (whatOf kind kept (slotOf i)) k) s at) x p
+  Here = Fills s x₀ (run (field (whatOf kind kept (targetOf i)) k) s at) x p
 
-  same-here : (t : Tree) → field (whatOf kind kept (slotOf i)) k ≡ t → Fills s x₀ (run t s at) x p → Here
+  same-here : (t : Tree) → field (whatOf kind kept (targetOf i)) k ≡ t → Fills s x₀ (run t s at) x p → Here
   same-here t e f = subst (λ (u : Tree). Fills s x₀ (run u s at) x p) (sym e) f
 
   pub text-here : kind ≡ 2 → Fills s x₀ (run (series kept 1 0 0 k) s at) x p → Here
@@ -65,7 +65,7 @@ module _ (s : List ℕ) (x₀ : Rooms) (at kind i : ℕ) (k : Unit {0} → Tree)
     unfolding roleOf entriesOf payloadOf
     number-here t g f =
         same-here _ (is-number kind 2 i k a c)
-        (subst (λ (u : Pieces). Fills s x₀ u x p) (sym (ask-found s at m e n q (slotOf (slotFor kind i)) (λ n. afterNumber kind 2 n k)))
+        (subst (λ (u : Pieces). Fills s x₀ u x p) (sym (ask-found s at m e n q (targetOf (targetFor kind i)) (λ n. afterNumber kind 2 n k)))
         (fills-front s x₀ _ (run (afterNumber kind 2 n k) s (at + 8)) x p refl refl (subst (λ (u : Tree). Fills s x₀ (run u s (at + 8)) x p) (sym g) f)))
 
     pub set-here : kind ≡ 3 → Fills s x₀ (run (series kept 0 0 n k) s (at + 8)) x p → Here
@@ -77,10 +77,10 @@ module _ (s : List ℕ) (x₀ : Rooms) (at kind i : ℕ) (k : Unit {0} → Tree)
     pairs-here h f = number-here _ (after-pairs kind 2 n k h) f
 
 pub cut-here : (s : List ℕ) (x₀ : Rooms) (at kind i : ℕ) (k : Unit {0} → Tree) → (kind ≡ 2 → ⊥) → (kind ≡ 5 → ⊥) → (m : Number) → numRead m ≡ peekNumber s at → m ≡ Short
-    → Fills s x₀ (run (field (whatOf kind kept (slotOf i)) k) s at) x₀ nothing
+    → Fills s x₀ (run (field (whatOf kind kept (targetOf i)) k) s at) x₀ nothing
 unfolding roleOf
 cut-here s x₀ at kind i k a c m e q =
-    fault-fills s x₀ _ x₀ _ (fills-start s x₀ _ _ refl) 1 at (ap (λ (t : Tree). run t s at) (is-number kind 2 i k a c) ∙ ask-cut s at m e q (slotOf (slotFor kind i)) (λ n. afterNumber kind 2 n k))
+    fault-fills s x₀ _ x₀ _ (fills-start s x₀ _ _ refl) 1 at (ap (λ (t : Tree). run t s at) (is-number kind 2 i k a c) ∙ ask-cut s at m e q (targetOf (targetFor kind i)) (λ n. afterNumber kind 2 n k))
 
 -- the same of what a series says, or framed data
 module _ (s ws : List ℕ) (w : ℕ) (bs : List ℕ) (b at kind : ℕ) (r : Listed) (ws' bs' : List ℕ) where
@@ -88,7 +88,7 @@ module _ (s ws : List ℕ) (w : ℕ) (bs : List ℕ) (b at kind : ℕ) (r : List
   SeriesFills t from = (ps : List ℕ) (n : ℕ) (k : Unit {0} → Tree) → Fills s (rooms ws w bs b ps n) (run (t k) s from) (listedRooms ws' bs' ps n r) (afterListed s k r)
 
   abbrev StringsFill : Type 0
-  StringsFill = (ps : List ℕ) (n i : ℕ) (k : Unit {0} → Tree) → Fills s (rooms ws w bs b ps n) (run (field (whatOf kind kept (slotOf i)) k) s at) (listedRooms ws' bs' ps n r) (afterListed s k r)
+  StringsFill = (ps : List ℕ) (n i : ℕ) (k : Unit {0} → Tree) → Fills s (rooms ws w bs b ps n) (run (field (whatOf kind kept (targetOf i)) k) s at) (listedRooms ws' bs' ps n r) (afterListed s k r)
 
   pub text-series : kind ≡ 2 → SeriesFills (series kept 1 0 0) at → StringsFill
   text-series e f ps n i k = text-here s _ at kind i k _ _ e (f ps n k)
@@ -106,12 +106,12 @@ series-past at (R.Over w b) h = tt
 
 module _ (s ws : List ℕ) (w : ℕ) (bs : List ℕ) (b : ℕ) (ps : List ℕ) (n at kind : ℕ) where
   abbrev FieldFills : (after : Rooms) → ((Unit {0} → Tree) → Pieces) → Type 0
-  FieldFills x p = (i : ℕ) (k : Unit {0} → Tree) → Fills s (rooms ws w bs b ps n) (run (field (whatOf kind kept (slotOf i)) k) s at) x (p k)
+  FieldFills x p = (i : ℕ) (k : Unit {0} → Tree) → Fills s (rooms ws w bs b ps n) (run (field (whatOf kind kept (targetOf i)) k) s at) x (p k)
 
   module _ (r : Copied) (ps' : List ℕ) (e : kind ≡ 5)
       (h : (ws : List ℕ) (w : ℕ) (bs : List ℕ) (b : ℕ) (k : Unit {0} → Tree) → Fills s (rooms ws w bs b ps n) (run (frames k) s at) (copiedRooms ws w bs b ps' r) (afterCopied s k r)) where
     copied-as : (y : Copied) → r ≡ y → FieldFills (copiedRooms ws w bs b ps' y) (λ k. afterCopied s k y)
-    copied-as y q i k = subst (λ (u : Copied). Fills s (rooms ws w bs b ps n) (run (field (whatOf kind kept (slotOf i)) k) s at) (copiedRooms ws w bs b ps' u) (afterCopied s k u)) q (frames-here s _ at kind i k _ _ e (h ws w bs b k))
+    copied-as y q i k = subst (λ (u : Copied). Fills s (rooms ws w bs b ps n) (run (field (whatOf kind kept (targetOf i)) k) s at) (copiedRooms ws w bs b ps' u) (afterCopied s k u)) q (frames-here s _ at kind i k _ _ e (h ws w bs b k))
 
     pub copied-over : (n' : ℕ) → r ≡ C.Over n' → FieldFills (rooms ws w bs b ps' n') (λ k. nothing)
     copied-over n' q = copied-as (C.Over n') q
@@ -121,7 +121,7 @@ module _ (s ws : List ℕ) (w : ℕ) (bs : List ℕ) (b : ℕ) (ps : List ℕ) (
 
   module _ (r : Listed) (ws' bs' : List ℕ) (h : StringsFill s ws w bs b at kind r ws' bs') where
     series-as : (y : Listed) → r ≡ y → FieldFills (listedRooms ws' bs' ps n y) (λ k. afterListed s k y)
-    series-as y q i k = subst (λ (u : Listed). Fills s (rooms ws w bs b ps n) (run (field (whatOf kind kept (slotOf i)) k) s at) (listedRooms ws' bs' ps n u) (afterListed s k u)) q (h ps n i k)
+    series-as y q i k = subst (λ (u : Listed). Fills s (rooms ws w bs b ps n) (run (field (whatOf kind kept (targetOf i)) k) s at) (listedRooms ws' bs' ps n u) (afterListed s k u)) q (h ps n i k)
 
     pub series-over : (w' b' : ℕ) → r ≡ R.Over w' b' → FieldFills (rooms ws' w' bs' b' ps n) (λ k. nothing)
     series-over w' b' q = series-as (R.Over w' b') q
@@ -214,26 +214,26 @@ module _ (s : List ℕ) (x₀ : Rooms) (p₀ : Pieces) (x : Rooms) (v : Version)
     pub stays-within : (2 ≤ f .kind) × (f .kind ≤ 5)
     stays-within = (on .0 .1, on .0 .2)
 
-    kept-by : Dec (f .kind < 5) → whatOf (f .kind) (roleOf (f .role)) (slotOf (f .slot)) ≡ whatOf (f .kind) kept (slotOf (f .slot))
+    kept-by : Dec (f .kind < 5) → whatOf (f .kind) (roleOf (f .role)) (targetOf (f .target)) ≡ whatOf (f .kind) kept (targetOf (f .target))
     unfolding whatOf
-    kept-by (yes h) = ap (λ (r : Role). whatOf (f .kind) r (slotOf (f .slot))) (role-kept (f .role) (on .0 .3 (λ e. omega arith)))
+    kept-by (yes h) = ap (λ (r : Role). whatOf (f .kind) r (targetOf (f .target))) (role-kept (f .role) (on .0 .3 (λ e. omega arith)))
     kept-by (no h) =
         let g = on .0 .2 in
         let e : f .kind ≡ 5 = omega arith in
         rw e
 
-    at-field : Fills s x₀ p₀ x (run (field (whatOf (f .kind) kept (slotOf (f .slot))) (onto v f (f .reps))) s a)
+    at-field : Fills s x₀ p₀ x (run (field (whatOf (f .kind) kept (targetOf (f .target))) (onto v f (f .reps))) s a)
     at-field =
         let w = run (itemTree v f) s a in
         let g = stays-within in
         let e = field-item v f (λ z. omega (arith, g)) (omega (arith, g)) ∙ ap (λ (t : What). field t (onto v f (f .reps))) (kept-by (decLt (f .kind) 5)) in
         fills-same s x₀ p₀ x w (fills-as s x₀ p₀ x (bare true w) (stopped (S.Stays a f) q) w (entries-bare w) (payload-bare s w)) _ (ap (λ (t : Tree). run t s a) e)
 
-    module _ (r : Filled) (ws bs ps : List ℕ) (h : (i : ℕ) (k : Unit {0} → Tree) → Fills s x (run (field (whatOf (f .kind) kept (slotOf i)) k) s a) (filledRooms ws bs ps r) (afterFilled s k r)) where
+    module _ (r : Filled) (ws bs ps : List ℕ) (h : (i : ℕ) (k : Unit {0} → Tree) → Fills s x (run (field (whatOf (f .kind) kept (targetOf i)) k) s a) (filledRooms ws bs ps r) (afterFilled s k r)) where
       filled : (y : Filled) → r ≡ y → Fills s x₀ p₀ (filledRooms ws bs ps y) (afterFilled s (onto v f (f .reps)) y)
       filled y e =
           subst (λ (u : Filled). Fills s x₀ p₀ (filledRooms ws bs ps u) (afterFilled s (onto v f (f .reps)) u)) e
-          (fills-on s x₀ p₀ x _ at-field _ _ (h (f .slot) (onto v f (f .reps))))
+          (fills-on s x₀ p₀ x _ at-field _ _ (h (f .target) (onto v f (f .reps))))
 
       pub fold-cut : (w b n : ℕ) → r ≡ F.Over w b n → Full s x₀ p₀ (rooms ws w bs b ps n)
       fold-cut w b n e = fold-over s x₀ p₀ (rooms ws w bs b ps n) (filled (F.Over w b n) e)

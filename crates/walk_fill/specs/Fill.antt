@@ -5,7 +5,7 @@ use Rattle.layouts.specs.Shape.{Tree, kept, frames, field}
 use Rattle.layouts.specs.Pieces.{Pieces, fault, run}
 use Rattle.layouts.specs.Judge.{entriesOf, payloadOf}
 use Rattle.writers_output.specs.Numbers.{bytesOf}
-use Rattle.table.specs.Table.{slotOf, whatOf}
+use Rattle.table.specs.Table.{targetOf, whatOf}
 use Rattle.walk_strings.specs.Strings.{series}
 use Rattle.walk_rooms.specs.Rooms.{Filling}
 use Rattle.walk_fill.specs.declared.Listed.{Listed}
@@ -53,7 +53,7 @@ SeriesFills s from pend extra left ws w bs b ws′ bs′ r =
 abbrev pub StringsFill : List ℕ → (at kind : ℕ) → (ws : List ℕ) → ℕ → (bs : List ℕ) → ℕ → (ws′ bs′ : List ℕ) → Listed → Type 0
 StringsFill s at kind ws w bs b ws′ bs′ r =
     (payload : List ℕ) (place i : ℕ) (k : Unit {0} → Tree)
-    → Fills s (rooms ws w bs b payload place) (run (field (whatOf kind kept (slotOf i)) k) s at) (listedRooms ws′ bs′ payload place r) (afterListed s k r)
+    → Fills s (rooms ws w bs b payload place) (run (field (whatOf kind kept (targetOf i)) k) s at) (listedRooms ws′ bs′ payload place r) (afterListed s k r)
 
 abbrev pub ListedFrom : (at : ℕ) → Listed → Type 0
 ListedFrom from (R.Past at w b) = from ≤ at
@@ -85,7 +85,7 @@ afterFilled s k (F.Over w b p) = nothing
 
 abbrev pub FieldFills : List ℕ → (at kind : ℕ) → Rooms → (words′ bytes′ payload′ : List ℕ) → Filled → Type 0
 FieldFills s at kind x₀ ws′ bs′ ps′ r =
-    (i : ℕ) (k : Unit {0} → Tree) → Fills s x₀ (run (field (whatOf kind kept (slotOf i)) k) s at) (filledRooms ws′ bs′ ps′ r) (afterFilled s k r)
+    (i : ℕ) (k : Unit {0} → Tree) → Fills s x₀ (run (field (whatOf kind kept (targetOf i)) k) s at) (filledRooms ws′ bs′ ps′ r) (afterFilled s k r)
 
 abbrev pub FilledFrom : (at : ℕ) → Filled → Type 0
 FilledFrom from (F.Past at w b p) = from ≤ at

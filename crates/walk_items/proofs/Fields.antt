@@ -5,50 +5,50 @@ use mathlib.Core.Bool.{Bool, true, false}
 use lib.Dec.{eqb}
 use borrow.Author.Tests.{eq-eqb, ne-eqb, eqb-true}
 use Rattle.layouts.specs.Primitive.{pick}
-use Rattle.layouts.specs.Shape.{Slot, dropped, passed, num, set, pairs, maybe, typed, Tree, ask, say, frames, units, ifTrue, byType, field}
-use Rattle.table.specs.Table.{roleOf, slotOf, whatOf}
-use Rattle.walk_items.specs.Items.{slotFor, afterNumber}
+use Rattle.layouts.specs.Shape.{Target, dropped, passed, num, set, pairs, maybe, typed, Tree, ask, say, frames, units, ifTrue, byType, field}
+use Rattle.table.specs.Table.{roleOf, targetOf, whatOf}
+use Rattle.walk_items.specs.Items.{targetFor, afterNumber}
 
-number-by : (role slot : ℕ) (k : Unit {0} → Tree) (a b c d : Bool)
-    → field (pick a (set (roleOf role) (slotOf slot)) (pick b (pairs (roleOf role) (slotOf slot)) (pick c maybe (pick d typed (num (slotOf slot)))))) k
-    ≡ ask (pick a (slotOf slot) (pick b (slotOf slot) (pick c dropped (pick d dropped (slotOf slot)))))
+number-by : (role target : ℕ) (k : Unit {0} → Tree) (a b c d : Bool)
+    → field (pick a (set (roleOf role) (targetOf target)) (pick b (pairs (roleOf role) (targetOf target)) (pick c maybe (pick d typed (num (targetOf target)))))) k
+    ≡ ask (pick a (targetOf target) (pick b (targetOf target) (pick c dropped (pick d dropped (targetOf target)))))
     (λ n. pick a (units (roleOf role) 0 n k) (pick b (units (roleOf role) 1 n k) (pick c (ifTrue n k) (pick d (byType n k) (k tt)))))
 unfolding field
-number-by role slot k true b c d = refl
-number-by role slot k false true c d = refl
-number-by role slot k false false true d = refl
-number-by role slot k false false false true = refl
-number-by role slot k false false false false = refl
+number-by role target k true b c d = refl
+number-by role target k false true c d = refl
+number-by role target k false false true d = refl
+number-by role target k false false false true = refl
+number-by role target k false false false false = refl
 
-slot-by : (slot : ℕ) (c d : Bool) → pick c dropped (pick d dropped (slotOf slot)) ≡ slotOf (pick c 0 (pick d 0 slot))
-unfolding slotOf
-slot-by slot true d = refl
-slot-by slot false true = refl
-slot-by slot false false = refl
+target-by : (target : ℕ) (c d : Bool) → pick c dropped (pick d dropped (targetOf target)) ≡ targetOf (pick c 0 (pick d 0 target))
+unfolding targetOf
+target-by target true d = refl
+target-by target false true = refl
+target-by target false false = refl
 
--- sets and pairs keep their slot
-kind-slot : (kind : ℕ) (i : Slot) (a b : Bool) → eqb kind 3 ≡ a → eqb kind 4 ≡ b
+-- sets and pairs keep their target
+kind-target : (kind : ℕ) (i : Target) (a b : Bool) → eqb kind 3 ≡ a → eqb kind 4 ≡ b
     → pick a i (pick b i (pick (eqb kind 6) dropped (pick (eqb kind 7) dropped i))) ≡ pick (eqb kind 6) dropped (pick (eqb kind 7) dropped i)
-kind-slot kind i true b p q = rw (eqb-true kind 3 p)
-kind-slot kind i false true p q = rw (eqb-true kind 4 q)
-kind-slot kind i false false p q = refl
+kind-target kind i true b p q = rw (eqb-true kind 3 p)
+kind-target kind i false true p q = rw (eqb-true kind 4 q)
+kind-target kind i false false p q = refl
 
 module _ (kind role : ℕ) where
-  module _ (slot : ℕ) (k : Unit {0} → Tree) where
-    pub is-text : kind ≡ 2 → field (whatOf kind (roleOf role) (slotOf slot)) k ≡ say (roleOf role) k
+  module _ (target : ℕ) (k : Unit {0} → Tree) where
+    pub is-text : kind ≡ 2 → field (whatOf kind (roleOf role) (targetOf target)) k ≡ say (roleOf role) k
     unfolding field whatOf
     is-text e = rw (eq-eqb kind 2 e)
 
-    pub is-framed : kind ≡ 5 → field (whatOf kind (roleOf role) (slotOf slot)) k ≡ frames k
+    pub is-framed : kind ≡ 5 → field (whatOf kind (roleOf role) (targetOf target)) k ≡ frames k
     unfolding field whatOf
     is-framed e = rw e
 
-    pub is-number : (kind ≡ 2 → ⊥) → (kind ≡ 5 → ⊥) → field (whatOf kind (roleOf role) (slotOf slot)) k ≡ ask (slotOf (slotFor kind slot)) (λ n. afterNumber kind role n k)
+    pub is-number : (kind ≡ 2 → ⊥) → (kind ≡ 5 → ⊥) → field (whatOf kind (roleOf role) (targetOf target)) k ≡ ask (targetOf (targetFor kind target)) (λ n. afterNumber kind role n k)
     unfolding whatOf afterNumber
     is-number a b =
         rw (ne-eqb kind 2 a, ne-eqb kind 5 b)
-        (number-by role slot k (eqb kind 3) (eqb kind 4) (eqb kind 6) (eqb kind 7)
-        ∙ ap (λ (i : Slot). ask i (λ n. afterNumber kind role n k)) (kind-slot kind (slotOf slot) (eqb kind 3) (eqb kind 4) refl refl ∙ slot-by slot (eqb kind 6) (eqb kind 7)))
+        (number-by role target k (eqb kind 3) (eqb kind 4) (eqb kind 6) (eqb kind 7)
+        ∙ ap (λ (i : Target). ask i (λ n. afterNumber kind role n k)) (kind-target kind (targetOf target) (eqb kind 3) (eqb kind 4) refl refl ∙ target-by target (eqb kind 6) (eqb kind 7)))
 
   -- ---- what follows the number n
   module _ (n : ℕ) (k : Unit {0} → Tree) where

@@ -7,11 +7,11 @@ use lib.Dec.{eqb}
 use native.Mathlib.Omega.{arith}
 use borrow.Author.Tests.{eq-eqb, ne-eqb, eqb-true, lt-ltb, le-ltb}
 use Rattle.layouts.specs.Primitive.{pick, Version, version, atLeast}
-use Rattle.layouts.specs.Shape.{What, Item, always, from, below, Group, Tree, ask, stop, field, there, what, gated, fields, repeated, truth, group, groups, layout}
+use Rattle.layouts.specs.Shape.{What, Gated, always, from, below, Group, Tree, ask, stop, field, there, what, gated, fields, repeated, truth, group, groups, layout}
 use Rattle.table.specs.declared.Field.{Field}
 use Rattle.table.specs.declared.PackedGroup.{PackedGroup}
 use Rattle.table.specs.Packed.{size, packedTable, nothing, emptyFields, oneNumber}
-use Rattle.table.specs.Table.{fieldAt, groupAt, roleOf, slotOf, whatOf, itemOf, unlessEnd, consItem, items, itemsAt, groupOf, consGroup, groupsAt}
+use Rattle.table.specs.Table.{fieldAt, groupAt, roleOf, targetOf, whatOf, itemOf, unlessEnd, consGated, items, itemsAt, groupOf, consGroup, groupsAt}
 use Rattle.table.specs.Claims.{others}
 use Rattle.table.proofs.Tables.{items-step, groups-step, field-in, group-in}
 use Rattle.walk_items.specs.declared.Item as I
@@ -42,16 +42,16 @@ module _ (v : Version) (r : I.Item) where
   unfolding itemTree
   quiet-item k = rw k
 
-  pub times-item : 16 ≤ r .kind → (r .kind ≡ 16 → ⊥) → itemTree v r ≡ ask (slotOf (r .slot)) (λ n. onto v r (timesOf (r .kind) n) tt)
+  pub times-item : 16 ≤ r .kind → (r .kind ≡ 16 → ⊥) → itemTree v r ≡ ask (targetOf (r .target)) (λ n. onto v r (timesOf (r .kind) n) tt)
   unfolding itemTree
   times-item a b = rw (ne-eqb (r .kind) 0 (λ k. omega arith), le-ltb (r .kind) 16 a, ne-eqb (r .kind) 16 b)
 
-  pub field-item : (r .kind ≡ 0 → ⊥) → r .kind < 16 → itemTree v r ≡ field (whatOf (r .kind) (roleOf (r .role)) (slotOf (r .slot))) (onto v r (r .reps))
+  pub field-item : (r .kind ≡ 0 → ⊥) → r .kind < 16 → itemTree v r ≡ field (whatOf (r .kind) (roleOf (r .role)) (targetOf (r .target))) (onto v r (r .reps))
   unfolding itemTree
   field-item a b = rw (ne-eqb (r .kind) 0 a, lt-ltb (r .kind) 16 b)
 
 -- ---- the next group
-again-by : (n : ℕ) (v : Version) (is : List Item) (k : Unit {0} → Tree) → 0 < n → repeated n v is k ≡ fields v is (λ u. repeated (n - 1) v is k)
+again-by : (n : ℕ) (v : Version) (is : List Gated) (k : Unit {0} → Tree) → 0 < n → repeated n v is k ≡ fields v is (λ u. repeated (n - 1) v is k)
 unfolding repeated
 again-by zero v is k h = absurd (omega arith)
 again-by (suc n) v is k h =
@@ -64,7 +64,7 @@ module _ (i : ℕ) (x : PackedGroup) (e : x ≡ groupAt i) where
     unfolding groupTree repeated
     group-cons = rw e (ap (λ (gs : List Group). groups v gs (λ u. stop)) (groups-step i))
 
-    group-is : (x .kind ≡ 0 → ⊥) → groupTree v 0 body i tt ≡ group v (groupOf (x .kind) (slotOf (x .slot)) (itemsAt (x .start))) (λ u. groups v (groupsAt (i + 1)) (λ u. stop))
+    group-is : (x .kind ≡ 0 → ⊥) → groupTree v 0 body i tt ≡ group v (groupOf (x .kind) (targetOf (x .target)) (itemsAt (x .start))) (λ u. groups v (groupsAt (i + 1)) (λ u. stop))
     unfolding groups consGroup unlessEnd
     group-is k = group-cons ∙ rw (ne-eqb (x .kind) 0 k)
 
@@ -75,11 +75,11 @@ module _ (i : ℕ) (x : PackedGroup) (e : x ≡ groupAt i) where
   unfolding itemTree groups consGroup unlessEnd
   group-ends k = (rw (← e, k), (λ v body. group-cons v body ∙ rw (eq-eqb (x .kind) 0 k), λ pc z l. absurd (z refl)))
 
-  pub group-flag : x .kind ≡ 2 → GroupMeets (item 17 0 (x .slot) size 0 (x .start) (i + 1))
+  pub group-flag : x .kind ≡ 2 → GroupMeets (item 17 0 (x .target) size 0 (x .start) (i + 1))
   unfolding itemTree group groupOf restTree groupTree fields itemsAt items packedTable
   group-flag k = (rw (← e, k), (λ v body. group-is v body (λ h. let y : _≡_ {A = ℕ} 0 2 = sym h ∙ k in omega arith) ∙ rw k, λ pc z l. absurd (omega arith)))
 
-  pub group-count : x .kind ≡ 3 → GroupMeets (item 18 0 (x .slot) size 0 (x .start) (i + 1))
+  pub group-count : x .kind ≡ 3 → GroupMeets (item 18 0 (x .target) size 0 (x .start) (i + 1))
   unfolding itemTree group groupOf restTree groupTree fields itemsAt items packedTable
   group-count k = (rw (← e, k), (λ v body. group-is v body (λ h. let y : _≡_ {A = ℕ} 0 3 = sym h ∙ k in omega arith) ∙ rw k, λ pc z l. absurd (omega arith)))
 
@@ -145,14 +145,14 @@ small-kind pc f e = rw e (omega arith)
 
 module _ (v : Version) (pc reps body i : ℕ) (f : Field) (e : f ≡ fieldAt pc) where
   abbrev whatIs : What
-  whatIs = whatOf (f .kind) (roleOf (f .role)) (slotOf (f .slot))
+  whatIs = whatOf (f .kind) (roleOf (f .role)) (targetOf (f .target))
 
   abbrev later : Unit {0} → Tree
   later = restTree v (pc + 1) reps body i
 
-  rest-cons : restTree v pc reps body i tt ≡ fields v (consItem f (λ u. itemsAt (pc + 1))) (groupTree v reps body i)
+  rest-cons : restTree v pc reps body i tt ≡ fields v (consGated f (λ u. itemsAt (pc + 1))) (groupTree v reps body i)
   unfolding restTree
-  rest-cons = rw e (ap (λ (is : List Item). fields v is (groupTree v reps body i)) (items-step pc))
+  rest-cons = rw e (ap (λ (is : List Gated). fields v is (groupTree v reps body i)) (items-step pc))
 
   abbrev Meets : I.Item → Type 0
   Meets r = (r ≡ nextItem v pc reps body i) × ((restTree v pc reps body i tt ≡ itemTree v r) × Falls pc reps i r)
@@ -162,22 +162,22 @@ module _ (v : Version) (pc reps body i : ℕ) (f : Field) (e : f ≡ fieldAt pc)
   said r h = h ∙ ap (fieldItem v pc reps body i) e
 
   pub field-none : f .kind ≡ 0 → restTree v pc reps body i tt ≡ groupTree v reps body i tt
-  unfolding fields consItem unlessEnd
+  unfolding fields consGated unlessEnd
   field-none k = rest-cons ∙ rw (eq-eqb (f .kind) 0 k)
 
   pub field-ends : (r : I.Item) → f .kind ≡ 0 → (r ≡ afterFields reps body i) × (((v : Version) → groupTree v reps body i tt ≡ itemTree v r) × ((pc : ℕ) → Falls pc reps i r)) → Meets r
-  unfolding fields consItem unlessEnd
+  unfolding fields consGated unlessEnd
   field-ends r k m = (said r (rw (eq-eqb (f .kind) 0 k) (m .0)), (rest-cons ∙ rw (eq-eqb (f .kind) 0 k) (m .1 .0 v), m .1 .1 pc))
 
   module _ (a : f .kind ≡ 0 → ⊥) (b : Bool) (q : b ≡ isThere v (f .gate) (f .minor)) where
-    abbrev one : Item
+    abbrev one : Gated
     one = itemOf (f .gate) (f .minor) whatIs
 
     rest-item : restTree v pc reps body i tt ≡ fields v (one ∷ itemsAt (pc + 1)) (groupTree v reps body i)
-    unfolding consItem unlessEnd
+    unfolding consGated unlessEnd
     rest-item = rest-cons ∙ rw (ne-eqb (f .kind) 0 a)
 
-    item-gated : (y : Item) → fields v (y ∷ itemsAt (pc + 1)) (groupTree v reps body i) ≡ gated (there v y) (what y) later
+    item-gated : (y : Gated) → fields v (y ∷ itemsAt (pc + 1)) (groupTree v reps body i) ≡ gated (there v y) (what y) later
     unfolding fields restTree groupTree
     item-gated y = refl
 
@@ -194,13 +194,13 @@ module _ (v : Version) (pc reps body i : ℕ) (f : Field) (e : f ≡ fieldAt pc)
       (rest-gated ∙ ap (λ (y : Bool). gated y whatIs later) (not-true b h), λ y k. let z = field-in pc f e a in omega arith),
     )
 
-    pub field-here : not b ≡ false → Meets (item (f .kind) (f .role) (f .slot) (pc + 1) reps body i)
+    pub field-here : not b ≡ false → Meets (item (f .kind) (f .role) (f .target) (pc + 1) reps body i)
     unfolding gated
     field-here h =
         let z = small-kind pc f e in (
           said _ (rw (ne-eqb (f .kind) 0 a, ← q, not-false b h)),
           (
-            rest-gated ∙ ap (λ (y : Bool). gated y whatIs later) (not-false b h) ∙ sym (field-item v (item (f .kind) (f .role) (f .slot) (pc + 1) reps body i) a z),
+            rest-gated ∙ ap (λ (y : Bool). gated y whatIs later) (not-false b h) ∙ sym (field-item v (item (f .kind) (f .role) (f .target) (pc + 1) reps body i) a z),
             λ y k. let g = field-in pc f e a in omega arith,
           ),
         )

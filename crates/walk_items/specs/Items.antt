@@ -10,7 +10,7 @@ use Rattle.layouts.specs.Pieces.{Pieces, run}
 use Rattle.table.specs.declared.Field.{Field}
 use Rattle.table.specs.declared.PackedGroup.{PackedGroup}
 use Rattle.table.specs.Packed.{size, nothing, emptyFields, oneNumber}
-use Rattle.table.specs.Table.{fieldAt, groupAt, roleOf, slotOf, whatOf, itemsAt, groupsAt, versionIn}
+use Rattle.table.specs.Table.{fieldAt, groupAt, roleOf, targetOf, whatOf, itemsAt, groupsAt, versionIn}
 use Rattle.walk_items.specs.declared.Item.{Item}
 use Rattle.walk_items.specs.declared.Brief.{Brief}
 use Rattle.walk_items.specs.declared.Brief.the-variants as B
@@ -62,12 +62,12 @@ onto v r n = restTree v (r .pc) n (r .body) (r .group)
 unfoldable pub itemTree : Version → Item → Tree
 itemTree v r =
     pick (eqb (r .kind) 0) stop
-    (pick (ltb (r .kind) 16) (field (whatOf (r .kind) (roleOf (r .role)) (slotOf (r .slot))) (onto v r (r .reps)))
-    (pick (eqb (r .kind) 16) (onto v r (r .reps) tt) (ask (slotOf (r .slot)) (λ n. onto v r (timesOf (r .kind) n) tt))))
+    (pick (ltb (r .kind) 16) (field (whatOf (r .kind) (roleOf (r .role)) (targetOf (r .target))) (onto v r (r .reps)))
+    (pick (eqb (r .kind) 16) (onto v r (r .reps) tt) (ask (targetOf (r .target)) (λ n. onto v r (timesOf (r .kind) n) tt))))
 
 -- ---- the next item, as the table has it
-abbrev pub item : (kind role slot pc reps body run : ℕ) → Item
-item kind role slot pc reps body run = record { kind = kind; role = role; slot = slot; pc = pc; reps = reps; body = body; group = run }
+abbrev pub item : (kind role target pc reps body run : ℕ) → Item
+item kind role target pc reps body run = record { kind = kind; role = role; target = target; pc = pc; reps = reps; body = body; group = run }
 
 -- is a field with this gate there?
 abbrev pub isThere : Version → (gate minor : ℕ) → Bool
@@ -79,8 +79,8 @@ beginItem i = pick (eqb (groupAt i .kind) 1) (item 16 0 0 (groupAt i .start) 0 (
 abbrev pub groupItem : (run : ℕ) → PackedGroup → Item
 groupItem i x =
     pick (eqb (x .kind) 0) (item 0 0 0 size 0 size i)
-    (pick (eqb (x .kind) 2) (item 17 0 (x .slot) size 0 (x .start) (i + 1))
-    (pick (eqb (x .kind) 3) (item 18 0 (x .slot) size 0 (x .start) (i + 1)) (item 16 0 0 (x .start) 0 (x .start) (i + 1))))
+    (pick (eqb (x .kind) 2) (item 17 0 (x .target) size 0 (x .start) (i + 1))
+    (pick (eqb (x .kind) 3) (item 18 0 (x .target) size 0 (x .start) (i + 1)) (item 16 0 0 (x .start) 0 (x .start) (i + 1))))
 
 abbrev pub afterFields : (reps body run : ℕ) → Item
 afterFields reps body i = pick (ltb 0 reps) (item 16 0 0 body (reps - 1) body i) (groupItem i (groupAt i))
@@ -88,14 +88,14 @@ afterFields reps body i = pick (ltb 0 reps) (item 16 0 0 body (reps - 1) body i)
 abbrev pub fieldItem : Version → (pc reps body run : ℕ) → Field → Item
 fieldItem v pc reps body i f =
     pick (eqb (f .kind) 0) (afterFields reps body i)
-    (pick (isThere v (f .gate) (f .minor)) (item (f .kind) (f .role) (f .slot) (pc + 1) reps body i) (item 16 0 0 (pc + 1) reps body i))
+    (pick (isThere v (f .gate) (f .minor)) (item (f .kind) (f .role) (f .target) (pc + 1) reps body i) (item 16 0 0 (pc + 1) reps body i))
 
 unfoldable pub nextItem : Version → (pc reps body run : ℕ) → Item
 nextItem v pc reps body i = fieldItem v pc reps body i (fieldAt pc)
 
 -- ---- what follows the number of a field
-abbrev pub slotFor : (kind slot : ℕ) → ℕ
-slotFor kind slot = pick (eqb kind 6) 0 (pick (eqb kind 7) 0 slot)
+abbrev pub targetFor : (kind target : ℕ) → ℕ
+targetFor kind target = pick (eqb kind 6) 0 (pick (eqb kind 7) 0 target)
 
 unfoldable pub afterNumber : (kind role n : ℕ) → (Unit {0} → Tree) → Tree
 afterNumber kind role n k =

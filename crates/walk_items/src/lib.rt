@@ -44,7 +44,7 @@ fn first(layout: Layout) -> usize
 pub struct Item {
     pub kind: u8,
     pub role: u8,
-    pub slot: u8,
+    pub target: u8,
     pub pc: usize,
     pub reps: u64,
     pub body: usize,
@@ -88,7 +88,7 @@ pub fn begin(layout: Layout) -> Item
         return Item {
             kind: QUIET,
             role: 0,
-            slot: 0,
+            target: 0,
             pc: start,
             reps: 0,
             body: start,
@@ -98,7 +98,7 @@ pub fn begin(layout: Layout) -> Item
     Item {
         kind: QUIET,
         role: 0,
-        slot: 0,
+        target: 0,
         pc: table::SIZE,
         reps: 0,
         body: table::SIZE,
@@ -151,13 +151,13 @@ fn next_group(i: usize) -> Item
 {
     let x = table_code::at(i);
     let kind = (x % 4) as u8;
-    let slot = (x / 4 % 64) as u8;
+    let target = (x / 4 % 64) as u8;
     let start = (x / 256) as usize;
     if kind == table::END {
         return Item {
             kind: table::END,
             role: 0,
-            slot: 0,
+            target: 0,
             pc: table::SIZE,
             reps: 0,
             body: table::SIZE,
@@ -169,7 +169,7 @@ fn next_group(i: usize) -> Item
         return Item {
             kind: FLAG,
             role: 0,
-            slot: slot,
+            target: target,
             pc: table::SIZE,
             reps: 0,
             body: start,
@@ -180,7 +180,7 @@ fn next_group(i: usize) -> Item
         return Item {
             kind: COUNT,
             role: 0,
-            slot: slot,
+            target: target,
             pc: table::SIZE,
             reps: 0,
             body: start,
@@ -190,7 +190,7 @@ fn next_group(i: usize) -> Item
     Item {
         kind: QUIET,
         role: 0,
-        slot: 0,
+        target: 0,
         pc: start,
         reps: 0,
         body: start,
@@ -208,7 +208,7 @@ fn after_fields(reps: u64, body: usize, group: usize) -> Item
         return Item {
             kind: QUIET,
             role: 0,
-            slot: 0,
+            target: 0,
             pc: body,
             reps: reps - 1,
             body: body,
@@ -236,7 +236,7 @@ pub fn next(layout: Layout, pc: usize, reps: u64, body: usize, group: usize) -> 
         return Item {
             kind: QUIET,
             role: 0,
-            slot: 0,
+            target: 0,
             pc: later,
             reps: reps,
             body: body,
@@ -246,7 +246,7 @@ pub fn next(layout: Layout, pc: usize, reps: u64, body: usize, group: usize) -> 
     Item {
         kind: kind,
         role: (x / 16 % 4) as u8,
-        slot: (x / 64 % 64) as u8,
+        target: (x / 64 % 64) as u8,
         pc: later,
         reps: reps,
         body: body,

@@ -10,7 +10,7 @@ use Rattle.layouts.specs.declared.Refusal.{Refusal}
 use Rattle.layouts.specs.Primitive.{Version}
 use Rattle.layouts.specs.Refusal.{plain, refusedBy}
 use Rattle.layouts.specs.Calls.{peekNumber}
-use Rattle.layouts.specs.Shape.{Slot, dropped, asNumber, asFlag, asCount, asPresence, Tree, ask, say, frames, strings}
+use Rattle.layouts.specs.Shape.{Target, dropped, asNumber, asFlag, asCount, asPresence, Tree, ask, say, frames, strings}
 use Rattle.layouts.specs.Pieces.{run}
 use Rattle.layouts.specs.Record.{noted, withEntries, withPayload}
 use Rattle.layouts.specs.Judge.{judgeOf, entriesOf}
@@ -18,9 +18,9 @@ use Rattle.numbers.specs.declared.Number.{Number}
 use Rattle.numbers.specs.declared.Number.the-variants.{Value, Short}
 use Rattle.pieces.specs.Pieces.{numRead}
 use Rattle.walk_strings.specs.Strings.{series}
-use Rattle.table.specs.Table.{roleOf, slotOf}
+use Rattle.table.specs.Table.{roleOf, targetOf}
 use Rattle.walk_items.specs.declared.Item.{Item}
-use Rattle.walk_items.specs.Items.{timesOf, onto, itemTree, slotFor, afterNumber}
+use Rattle.walk_items.specs.Items.{timesOf, onto, itemTree, targetFor, afterNumber}
 use Rattle.walk_items.proofs.Trees.{times-item, field-item}
 use Rattle.walk_items.proofs.Fields.{is-text, is-framed, is-number, after-set, after-pairs, after-false, after-true, after-type-0, after-typed, after-nothing}
 use Rattle.walk_take.specs.declared.Series.{Series}
@@ -32,7 +32,7 @@ use Rattle.walk_judge.specs.declared.Fed.the-variants as F
 use Rattle.walk_judge.specs.Judged.{Feeds}
 
 -- ---- the record
-noted-keeps : (x : Record) (i : Slot) (v : ℕ) → noted x i v .entries ≡ x .entries
+noted-keeps : (x : Record) (i : Target) (v : ℕ) → noted x i v .entries ≡ x .entries
 unfolding noted
 noted-keeps x dropped v = refl
 noted-keeps x (asNumber i) v = refl
@@ -40,7 +40,7 @@ noted-keeps x (asFlag i) v = refl
 noted-keeps x (asCount i) v = refl
 noted-keeps x asPresence v = refl
 
-noted-entries : (x : Record) (i : Slot) (v n : ℕ) → withEntries (noted x i v) n ≡ noted (withEntries x n) i v
+noted-entries : (x : Record) (i : Target) (v n : ℕ) → withEntries (noted x i v) n ≡ noted (withEntries x n) i v
 unfolding noted
 noted-entries x dropped v n = refl
 noted-entries x (asNumber i) v n = refl
@@ -101,7 +101,7 @@ module _ (s : List ℕ) (slots at n p : ℕ) (f : Item) (w : List ℕ) where
     -- a string
     module _ (t : f .kind ≡ 2) (w' : List ℕ) (r : Series) (h : Takes s slots at (say (roleOf (f .role))) w n w' r) where
       text-item : (ver : Version) → itemTree ver f ≡ say (roleOf (f .role)) (onto ver f (f .reps))
-      text-item ver = field-item ver f a (omega arith) ∙ is-text (f .kind) (f .role) (f .slot) (onto ver f (f .reps)) t
+      text-item ver = field-item ver f a (omega arith) ∙ is-text (f .kind) (f .role) (f .target) (onto ver f (f .reps)) t
 
       fed-series : (room : ℕ) (y : Series) → r ≡ y → (ver : Version) (x : Record) → x .entries ≡ n → judgeOf s slots room x (run (itemTree ver f) s at) ≡ seriesTo s slots room x (onto ver f (f .reps)) y
       fed-series room y q ver x z =
@@ -112,7 +112,7 @@ module _ (s : List ℕ) (slots at n p : ℕ) (f : Item) (w : List ℕ) where
       fed-refused room x q = record { judges = λ ver y z _. fed-series room (O.Refused x) q ver y z; keeps = λ ver. tt }
 
       pub fed-text : (room at' n' : ℕ) → r ≡ O.Past at' n' → Feeds s slots room at n p f w w' (F.Past at' n' p (f .reps) 0 0)
-      unfolding noted slotOf
+      unfolding noted targetOf
       fed-text room at' n' q =
           record {
             judges = λ ver x z y.
@@ -126,7 +126,7 @@ module _ (s : List ℕ) (slots at n p : ℕ) (f : Item) (w : List ℕ) where
     -- framed data
     module _ (room : ℕ) (t : f .kind ≡ 5) (r : Series) (h : TakesFrames s room at p r) where
       frames-item : (ver : Version) → itemTree ver f ≡ frames (onto ver f (f .reps))
-      frames-item ver = field-item ver f a (omega arith) ∙ is-framed (f .kind) (f .role) (f .slot) (onto ver f (f .reps)) t
+      frames-item ver = field-item ver f a (omega arith) ∙ is-framed (f .kind) (f .role) (f .target) (onto ver f (f .reps)) t
 
       fed-frames : (y : Series) → r ≡ y → (ver : Version) (x : Record) → x .payload ≡ p → judgeOf s slots room x (run (itemTree ver f) s at) ≡ framesTo s slots room x (onto ver f (f .reps)) y
       fed-frames y q ver x z =
@@ -137,7 +137,7 @@ module _ (s : List ℕ) (slots at n p : ℕ) (f : Item) (w : List ℕ) where
       frames-refused x q = record { judges = λ ver y _ z. fed-frames (O.Refused x) q ver y z; keeps = λ ver. tt }
 
       pub frames-fed : (at' p' : ℕ) → r ≡ O.Past at' p' → Feeds s slots room at n p f w w (F.Past at' n p' (f .reps) 0 0)
-      unfolding noted slotOf
+      unfolding noted targetOf
       frames-fed at' p' q =
           record {
             judges = λ ver x z y.
@@ -150,10 +150,10 @@ module _ (s : List ℕ) (slots at n p : ℕ) (f : Item) (w : List ℕ) where
 
     -- a number
     module _ (b : f .kind ≡ 16 → ⊥) (c : f .kind ≡ 2 → ⊥) (d : f .kind ≡ 5 → ⊥) where
-      field-asks : f .kind < 16 → (ver : Version) (i : ℕ) → i ≡ slotFor (f .kind) (f .slot) → itemTree ver f ≡ ask (slotOf i) (λ v. afterNumber (f .kind) (f .role) v (onto ver f (f .reps)))
+      field-asks : f .kind < 16 → (ver : Version) (i : ℕ) → i ≡ targetFor (f .kind) (f .target) → itemTree ver f ≡ ask (targetOf i) (λ v. afterNumber (f .kind) (f .role) v (onto ver f (f .reps)))
       field-asks l ver i g =
-          field-item ver f a l ∙ is-number (f .kind) (f .role) (f .slot) (onto ver f (f .reps)) c d
-          ∙ ap (λ (j : ℕ). ask (slotOf j) (λ v. afterNumber (f .kind) (f .role) v (onto ver f (f .reps)))) (sym g)
+          field-item ver f a l ∙ is-number (f .kind) (f .role) (f .target) (onto ver f (f .reps)) c d
+          ∙ ap (λ (j : ℕ). ask (targetOf j) (λ v. afterNumber (f .kind) (f .role) v (onto ver f (f .reps)))) (sym g)
 
       module _ (m : Number) (e : numRead m ≡ peekNumber s at) where
         cut-by : (r : Refusal) → r ≡ plain 1 at → m ≡ Short → (room : ℕ) → Dec (f .kind < 16) → (ver : Version) (x : Record) → judgeOf s slots room x (run (itemTree ver f) s at) ≡ refusedBy r
@@ -166,28 +166,28 @@ module _ (s : List ℕ) (slots at n p : ℕ) (f : Item) (w : List ℕ) where
         number-cuts r g q room = record { judges = λ ver x z y. cut-by r g q room (decLt (f .kind) 16) ver x; keeps = λ ver. tt }
 
         module _ (v : ℕ) (q : m ≡ Value v) where
-          pub fed-times : 16 < f .kind → (t : ℕ) → t ≡ timesOf (f .kind) v → (room : ℕ) → Feeds s slots room at n p f w w (F.Past (at + 8) n p t (f .slot) v)
+          pub fed-times : 16 < f .kind → (t : ℕ) → t ≡ timesOf (f .kind) v → (room : ℕ) → Feeds s slots room at n p f w w (F.Past (at + 8) n p t (f .target) v)
           fed-times l t g room =
               record {
                 judges = λ ver x z y.
                     ap (λ (u : Tree). judgeOf s slots room x (run u s at)) (times-item ver f (omega arith) b)
-                    ∙ ask-judges s at m e v q slots room x (slotOf (f .slot)) (λ n. onto ver f (timesOf (f .kind) n) tt)
-                    ∙ ap (λ (u : Record). judgeOf s slots room (noted u (slotOf (f .slot)) v) (run (onto ver f (timesOf (f .kind) v) tt) s (at + 8))) (same-entries x n z ∙ same-payload (withEntries x n) p y)
-                    ∙ ap (λ (u : ℕ). judgeOf s slots room (noted (withPayload (withEntries x n) p) (slotOf (f .slot)) v) (run (onto ver f u tt) s (at + 8))) (sym g);
+                    ∙ ask-judges s at m e v q slots room x (targetOf (f .target)) (λ n. onto ver f (timesOf (f .kind) n) tt)
+                    ∙ ap (λ (u : Record). judgeOf s slots room (noted u (targetOf (f .target)) v) (run (onto ver f (timesOf (f .kind) v) tt) s (at + 8))) (same-entries x n z ∙ same-payload (withEntries x n) p y)
+                    ∙ ap (λ (u : ℕ). judgeOf s slots room (noted (withPayload (withEntries x n) p) (targetOf (f .target)) v) (run (onto ver f u tt) s (at + 8))) (sym g);
                 keeps = λ ver.
                     ap (λ (u : Tree). ahead w n (run u s at)) (times-item ver f (omega arith) b)
-                    ∙ ask-keeps s at m e v q w n (slotOf (f .slot)) (λ n. onto ver f (timesOf (f .kind) n) tt)
+                    ∙ ask-keeps s at m e v q w n (targetOf (f .target)) (λ n. onto ver f (timesOf (f .kind) n) tt)
                     ∙ ap (λ (u : ℕ). ahead w n (run (onto ver f u tt) s (at + 8))) (sym g);
               }
 
-          module _ (l : f .kind < 16) (i : ℕ) (g : i ≡ slotFor (f .kind) (f .slot)) (w' : List ℕ) (r : Series) (h : Takes s slots (at + 8) (afterNumber (f .kind) (f .role) v) w n w' r) where
+          module _ (l : f .kind < 16) (i : ℕ) (g : i ≡ targetFor (f .kind) (f .target)) (w' : List ℕ) (r : Series) (h : Takes s slots (at + 8) (afterNumber (f .kind) (f .role) v) w n w' r) where
             fed-after : (room : ℕ) (y : Series) → r ≡ y → (ver : Version) (x : Record) → x .entries ≡ n
-                → judgeOf s slots room x (run (itemTree ver f) s at) ≡ seriesTo s slots room (noted x (slotOf i) v) (onto ver f (f .reps)) y
+                → judgeOf s slots room x (run (itemTree ver f) s at) ≡ seriesTo s slots room (noted x (targetOf i) v) (onto ver f (f .reps)) y
             fed-after room y o ver x z =
                 ap (λ (u : Tree). judgeOf s slots room x (run u s at)) (field-asks l ver i g)
-                ∙ ask-judges s at m e v q slots room x (slotOf i) (λ n. afterNumber (f .kind) (f .role) n (onto ver f (f .reps)))
-                ∙ h .judges room (onto ver f (f .reps)) (noted x (slotOf i) v) (noted-keeps x (slotOf i) v ∙ z)
-                ∙ ap (seriesTo s slots room (noted x (slotOf i) v) (onto ver f (f .reps))) o
+                ∙ ask-judges s at m e v q slots room x (targetOf i) (λ n. afterNumber (f .kind) (f .role) n (onto ver f (f .reps)))
+                ∙ h .judges room (onto ver f (f .reps)) (noted x (targetOf i) v) (noted-keeps x (targetOf i) v ∙ z)
+                ∙ ap (seriesTo s slots room (noted x (targetOf i) v) (onto ver f (f .reps))) o
 
             pub after-refused : (room : ℕ) (x : Refusal) → r ≡ O.Refused x → Feeds s slots room at n p f w w' (F.Refused x)
             after-refused room x o = record { judges = λ ver y z _. fed-after room (O.Refused x) o ver y z; keeps = λ ver. tt }
@@ -198,10 +198,10 @@ module _ (s : List ℕ) (slots at n p : ℕ) (f : Item) (w : List ℕ) where
                   judges = λ ver x z y.
                       fed-after room (O.Past at' n') o ver x z
                       ∙ ap (λ (u : Record). judgeOf s slots room u (run (onto ver f (f .reps) tt) s at'))
-                      (noted-entries x (slotOf i) v n' ∙ ap (λ (u : Record). noted u (slotOf i) v) (same-payload (withEntries x n') p y));
+                      (noted-entries x (targetOf i) v n' ∙ ap (λ (u : Record). noted u (targetOf i) v) (same-payload (withEntries x n') p y));
                   keeps = λ ver.
                       ap (λ (u : Tree). ahead w n (run u s at)) (field-asks l ver i g)
-                      ∙ ask-keeps s at m e v q w n (slotOf i) (λ n. afterNumber (f .kind) (f .role) n (onto ver f (f .reps)))
+                      ∙ ask-keeps s at m e v q w n (targetOf i) (λ n. afterNumber (f .kind) (f .role) n (onto ver f (f .reps)))
                       ∙ subst (seriesIn s w' (ahead w n (run (afterNumber (f .kind) (f .role) v (onto ver f (f .reps))) s (at + 8))) (onto ver f (f .reps))) o (h .keeps (onto ver f (f .reps)));
                 }
 

@@ -15,7 +15,7 @@ use Rattle.layouts.specs.Shape.{Tree, truth}
 use Rattle.layouts.specs.Pieces.{Pieces, run}
 use Rattle.layouts.specs.Record.{noted, withEntries, withPayload, withNumber}
 use Rattle.layouts.specs.Judge.{Ended, judgeOf, entriesOf}
-use Rattle.table.specs.Table.{slotOf}
+use Rattle.table.specs.Table.{targetOf}
 use Rattle.walk_items.specs.declared.Item.{Item}
 use Rattle.walk_items.specs.Items.{versionOf, layoutTree, piecesOf, restTree, itemTree, Falls}
 use Rattle.walk_items.proofs.Trees.{end-item, quiet-item}
@@ -59,9 +59,9 @@ module _ (s : List ℕ) (slots room : ℕ) (ver : Version) (at pc reps body x : 
     going-refused r a q e =
         e ∙ ap (λ (y : Result Ended). answerAs (endedAs y)) (ap (fedTo s slots room ver got f) (sym q) ∙ sym (h .judges ver got refl refl) ∙ by-item _ refl .judges)
 
-    pub going-on : (a n p r slot x : ℕ) → k ≡ F.Past a n p r slot x → (y : Record) → y ≡ noted (withPayload (withEntries got n) p) (slotOf slot) x → y .entries ≡ n
+    pub going-on : (a n p r target x : ℕ) → k ≡ F.Past a n p r target x → (y : Record) → y ≡ noted (withPayload (withEntries got n) p) (targetOf target) x → y .entries ≡ n
         → Going s slots room o v y w' (toCome s ver a (f .pc) r (f .body) (f .group))
-    going-on a n p r slot x q y e z =
+    going-on a n p r target x q y e z =
         let b : judgeOf s slots room y (toCome s ver a (f .pc) r (f .body) (f .group)) ≡ judgeOf s slots room got (run (itemTree ver f) s at) =
         ap (λ (u : Record). judgeOf s slots room u (toCome s ver a (f .pc) r (f .body) (f .group))) e ∙ ap (fedTo s slots room ver got f) (sym q) ∙ sym (h .judges ver got refl refl) in
         let c = subst (fedIn s w' (ahead w (got .entries) (run (itemTree ver f) s at)) ver f) q (h .keeps ver) in
@@ -70,38 +70,38 @@ module _ (s : List ℕ) (slots room : ℕ) (ver : Version) (at pc reps body x : 
           keeps = ap (λ (i : ℕ). ahead w' i (toCome s ver a (f .pc) r (f .body) (f .group))) z ∙ sym c ∙ by-item _ refl .keeps;
         }
 
--- ---- a number in its slot, written in place
-module _ (ns cs : List ℕ) (b : Bool) (slot v : ℕ) where
+-- ---- a number in its target, written in place
+module _ (ns cs : List ℕ) (b : Bool) (target v : ℕ) where
   abbrev Noted : (ns cs : List ℕ) → Bool → Type 0
-  Noted ns' cs' b' = (n p : ℕ) → gathered ns' cs' b' n p ≡ noted (gathered ns cs b n p) (slotOf slot) v
+  Noted ns' cs' b' = (n p : ℕ) → gathered ns' cs' b' n p ≡ noted (gathered ns cs b n p) (targetOf target) v
 
-  pub in-none : slot ≡ 0 → Noted ns cs b
-  in-none z n p = noted-none (gathered ns cs b n p) slot v z
+  pub in-none : target ≡ 0 → Noted ns cs b
+  in-none z n p = noted-none (gathered ns cs b n p) target v z
 
-  module _ (z : slot ≡ 0 → ⊥) where
-    pub in-number : slot < 13 → Noted (set ns (slot - 1) v) cs b
+  module _ (z : target ≡ 0 → ⊥) where
+    pub in-number : target < 13 → Noted (set ns (target - 1) v) cs b
     in-number h n p =
-        let g : slot - 1 < 12 = omega arith in
-        ap (λ (u : Bool). gathered (pick u (set ns (slot - 1) v) ns) cs b n p) (sym (lt-ltb (slot - 1) 12 g)) ∙ noted-number (gathered ns cs b n p) slot v z h
+        let g : target - 1 < 12 = omega arith in
+        ap (λ (u : Bool). gathered (pick u (set ns (target - 1) v) ns) cs b n p) (sym (lt-ltb (target - 1) 12 g)) ∙ noted-number (gathered ns cs b n p) target v z h
 
-    pub in-flag : (y : ℕ) → y ≡ truth v → 13 ≤ slot → slot < 25 → Noted (set ns (slot - 13) y) cs b
+    pub in-flag : (y : ℕ) → y ≡ truth v → 13 ≤ target → target < 25 → Noted (set ns (target - 13) y) cs b
     in-flag y e l h n p =
-        let g : slot - 13 < 12 = omega arith in
-        ap (λ (u : Bool). gathered (pick u (set ns (slot - 13) y) ns) cs b n p) (sym (lt-ltb (slot - 13) 12 g))
-        ∙ ap (λ (x : ℕ). withNumber (gathered ns cs b n p) (slot - 13) x) e ∙ noted-flag (gathered ns cs b n p) slot v z l h
+        let g : target - 13 < 12 = omega arith in
+        ap (λ (u : Bool). gathered (pick u (set ns (target - 13) y) ns) cs b n p) (sym (lt-ltb (target - 13) 12 g))
+        ∙ ap (λ (x : ℕ). withNumber (gathered ns cs b n p) (target - 13) x) e ∙ noted-flag (gathered ns cs b n p) target v z l h
 
-    pub in-count : 25 ≤ slot → slot < 28 → Noted ns (set cs (slot - 25) v) b
+    pub in-count : 25 ≤ target → target < 28 → Noted ns (set cs (target - 25) v) b
     in-count l h n p =
-        let g : slot - 25 < 3 = omega arith in
-        ap (λ (u : Bool). gathered ns (pick u (set cs (slot - 25) v) cs) b n p) (sym (lt-ltb (slot - 25) 3 g)) ∙ noted-count (gathered ns cs b n p) slot v z l h
+        let g : target - 25 < 3 = omega arith in
+        ap (λ (u : Bool). gathered ns (pick u (set cs (target - 25) v) cs) b n p) (sym (lt-ltb (target - 25) 3 g)) ∙ noted-count (gathered ns cs b n p) target v z l h
 
-    pub in-presence : 28 ≤ slot → Noted ns cs (not (eqb v 0))
-    in-presence l n p = noted-presence (gathered ns cs b n p) slot v (not (eqb v 0)) z l (is-true v)
+    pub in-presence : 28 ≤ target → Noted ns cs (not (eqb v 0))
+    in-presence l n p = noted-presence (gathered ns cs b n p) target v (not (eqb v 0)) z l (is-true v)
 
 -- ---- the measure
 module _ (s : List ℕ) (at pc reps i : ℕ) where
   pub quiet-less : (f : Item) → Falls pc reps i f → f .kind ≡ 16 → fuelOf s at (f .pc) (f .reps) (f .group) < fuelOf s at pc reps i
   quiet-less f h k = let g = h (λ z. omega arith) (omega arith) in omega (arith, g)
 
-  pub fed-less : (k : Fed) (a n p r slot v pc' i' : ℕ) → FedTook s at k → k ≡ F.Past a n p r slot v → r < 18446744073709551616 → fuelOf s a pc' r i' < fuelOf s at pc reps i
-  fed-less k a n p r slot v pc' i' h q b = let g : FedTook s at (F.Past a n p r slot v) = subst (FedTook s at) q h in omega (arith, g)
+  pub fed-less : (k : Fed) (a n p r target v pc' i' : ℕ) → FedTook s at k → k ≡ F.Past a n p r target v → r < 18446744073709551616 → fuelOf s a pc' r i' < fuelOf s at pc reps i
+  fed-less k a n p r target v pc' i' h q b = let g : FedTook s at (F.Past a n p r target v) = subst (FedTook s at) q h in omega (arith, g)

@@ -11,7 +11,7 @@ use Rattle.layouts.specs.Record.{blank, withEntries, withPayload, noted}
 use Rattle.layouts.specs.Judge.{Ended, judgeOf}
 use Rattle.layouts.specs.Pieces.{run}
 use Rattle.layouts.specs.Calls as L
-use Rattle.table.specs.Table.{slotOf}
+use Rattle.table.specs.Table.{targetOf}
 use Rattle.walk_items.specs.declared.Item.{Item}
 use Rattle.walk_items.specs.Items.{onto, itemTree, piecesOf}
 use Rattle.walk_take.specs.Taking.{inWindow, ahead}
@@ -47,13 +47,13 @@ abbrev pub windowAfter : Said → (window : List ℕ) → (n : ℕ) → (entries
 windowAfter (S.Fine kind ends ends2 m p b) w n es = inWindow w n es
 windowAfter (S.Refused r) w n es = replicate 16 0
 
--- ---- an item: what follows it is judged with the entries and the payload then, and with a number in its slot
+-- ---- an item: what follows it is judged with the entries and the payload then, and with a number in its target
 abbrev pub fedTo : List ℕ → (slots room : ℕ) → Version → Record → Item → Fed → Result Ended
-fedTo s slots room ver x f (F.Past at n p reps slot v) = judgeOf s slots room (noted (withPayload (withEntries x n) p) (slotOf slot) v) (run (onto ver f reps tt) s at)
+fedTo s slots room ver x f (F.Past at n p reps target v) = judgeOf s slots room (noted (withPayload (withEntries x n) p) (targetOf target) v) (run (onto ver f reps tt) s at)
 fedTo s slots room ver x f (F.Refused r) = refusedBy r
 
 abbrev pub fedIn : List ℕ → (window : List ℕ) → (whole : List ℕ) → Version → Item → Fed → Type 0
-fedIn s w es ver f (F.Past at n p reps slot v) = es ≡ ahead w n (run (onto ver f reps tt) s at)
+fedIn s w es ver f (F.Past at n p reps target v) = es ≡ ahead w n (run (onto ver f reps tt) s at)
 fedIn s w es ver f (F.Refused r) = Unit {0}
 
 pub record Feeds (s : List ℕ) (slots room at n p : ℕ) (f : Item) (w w' : List ℕ) (r : Fed) : Type 0 where
@@ -61,5 +61,5 @@ pub record Feeds (s : List ℕ) (slots room at n p : ℕ) (f : Item) (w w' : Lis
   pub keeps : (ver : Version) → fedIn s w' (ahead w n (run (itemTree ver f) s at)) ver f r
 
 abbrev pub FedTook : List ℕ → (at : ℕ) → Fed → Type 0
-FedTook s at (F.Past a n p reps slot v) = (at + 8 ≤ a) × (at + 8 ≤ length s)
+FedTook s at (F.Past a n p reps target v) = (at + 8 ≤ a) × (at + 8 ≤ length s)
 FedTook s at (F.Refused r) = Unit {0}

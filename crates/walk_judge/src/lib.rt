@@ -6,11 +6,11 @@ ghost use Rattle.layouts.specs.Refusal.{refusedBy};
 ghost use Rattle.layouts.specs.Shape.{truth};
 ghost use Rattle.layouts.specs.Record.{blank, noted};
 ghost use Rattle.layouts.specs.Judge.{entriesOf};
-ghost use Rattle.table.specs.Table.{slotOf};
+ghost use Rattle.table.specs.Table.{targetOf};
 ghost use Rattle.walk_take.specs.Taking.{Takes, SeriesFrom};
 ghost use Rattle.walk_judge.specs.declared.Said.the-variants as S;
 ghost use Rattle.walk_judge.specs.Judged.{gathered, answerOf, answerAs, Feeds, FedTook, windowAfter, judgedAs};
-ghost use Rattle.walk_items.specs.Items.{piecesOf, slotFor, afterNumber};
+ghost use Rattle.walk_items.specs.Items.{piecesOf, targetFor, afterNumber};
 use layouts::Record;
 use layouts::Refusal;
 use numbers::Number;
@@ -45,14 +45,14 @@ pub enum Said {
     Refused(Refusal),
 }
 
-// What an item makes of the state: where it ends, the entries and the payload then, how often the body comes again, and a number with its slot.
+// What an item makes of the state: where it ends, the entries and the payload then, how often the body comes again, and a number with its target.
 enum Fed {
     Past {
         at: usize,
         entries: usize,
         payload: usize,
         reps: u64,
-        slot: usize,
+        target: usize,
         value: u64,
     },
     Refused(Refusal),
@@ -128,8 +128,8 @@ fn judge_after(
 }
 
 // The flag of a maybe and the type of a typed field go nowhere.
-fn slot_for(kind: u8, slot: u8) -> u8
-    ensures { λ r. ⌜ r ≡ slotFor kind slot ⌝ }
+fn target_for(kind: u8, target: u8) -> u8
+    ensures { λ r. ⌜ r ≡ targetFor kind target ⌝ }
 {
     if kind == table::MAYBE {
         return table::DROPPED;
@@ -137,7 +137,7 @@ fn slot_for(kind: u8, slot: u8) -> u8
     if kind == table::TYPED {
         return table::DROPPED;
     }
-    slot
+    target
 }
 
 // An item that begins with a number.
@@ -167,11 +167,11 @@ fn feed_number(
                     entries: n,
                     payload: p,
                     reps: times,
-                    slot: f.slot as usize,
+                    target: f.target as usize,
                     value: x,
                 };
             }
-            let slot = slot_for(kind, f.slot);
+            let target = target_for(kind, f.target);
             let k = judge_after(s, on, kind, f.role, x, slots, n, window);
             match k {
                 Series::Refused(r) => Fed::Refused(r),
@@ -180,7 +180,7 @@ fn feed_number(
                     entries,
                     payload: p,
                     reps: f.reps,
-                    slot: slot as usize,
+                    target: target as usize,
                     value: x,
                 },
             }
@@ -216,7 +216,7 @@ fn feed(
                     entries,
                     payload: p,
                     reps: f.reps,
-                    slot: 0,
+                    target: 0,
                     value: 0,
                 };
             }
@@ -234,7 +234,7 @@ fn feed(
                     entries: n,
                     payload: entries,
                     reps: f.reps,
-                    slot: 0,
+                    target: 0,
                     value: 0,
                 };
             }
@@ -284,23 +284,29 @@ pub fn answer_of(said: Said, numbers: [u64; 12], counts: [u64; 3]) -> Answer
     }
 }
 
-// A number into the slot that the table gives it, and whether a group that a flag decides is there then.
-fn note(numbers: &mut [u64; 12], counts: &mut [u64; 3], present: bool, slot: usize, x: u64) -> bool
-    ensures { λ r. ⌜ ((n p : ℕ) → gathered (now (numbers .exit)) (now (counts .exit)) r n p ≡ noted (gathered (now (numbers .entry)) (now (counts .entry)) present n p) (slotOf slot) x) ⌝ }
+// A number into the target that the table gives it, and whether a group that a flag decides is there then.
+fn note(
+    numbers: &mut [u64; 12],
+    counts: &mut [u64; 3],
+    present: bool,
+    target: usize,
+    x: u64,
+) -> bool
+    ensures { λ r. ⌜ ((n p : ℕ) → gathered (now (numbers .exit)) (now (counts .exit)) r n p ≡ noted (gathered (now (numbers .entry)) (now (counts .entry)) present n p) (targetOf target) x) ⌝ }
 {
-    if slot == 0 {
+    if target == 0 {
         return present;
     }
-    if slot < 13 {
-        numbers[slot - 1] = x;
+    if target < 13 {
+        numbers[target - 1] = x;
         return present;
     }
-    if slot < 25 {
-        numbers[slot - 13] = flag(x);
+    if target < 25 {
+        numbers[target - 13] = flag(x);
         return present;
     }
-    if slot < 28 {
-        counts[slot - 25] = x;
+    if target < 28 {
+        counts[target - 25] = x;
         return present;
     }
     x != 0
@@ -373,10 +379,10 @@ pub fn judge(
                     entries: more,
                     payload: total,
                     reps: times,
-                    slot,
+                    target,
                     value,
                 } => {
-                    present = note(numbers, counts, present, slot, value);
+                    present = note(numbers, counts, present, target, value);
                     at = next;
                     n = more;
                     p = total;

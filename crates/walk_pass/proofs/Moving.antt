@@ -20,7 +20,7 @@ use Rattle.pieces.specs.Pieces.{numRead}
 use Rattle.pieces.proofs.Numbers.{number-known}
 use Rattle.pieces.proofs.Found.{plain-is}
 use Rattle.pieces.proofs.Nodes.{ask-cut, ask-found}
-use Rattle.table.specs.Table.{roleOf, slotOf, whatOf}
+use Rattle.table.specs.Table.{roleOf, targetOf, whatOf}
 use Rattle.walk_strings.specs.declared.Passed.{Passed}
 use Rattle.walk_strings.specs.declared.Passed.the-variants as P
 use Rattle.walk_strings.specs.Strings.{stays, bare, passedTo, Passes}
@@ -53,21 +53,21 @@ module _ (s : List ℕ) (at : ℕ) (f : Item) where
   quiet-moves k = (λ b v z l. by-item b v _ (quiet-item v f k), ((λ e. (refl, refl), λ e. absurd (e k)), rw k))
 
   module _ (k : f .kind < 16) (r : Passed)
-      (h : (b : Bool) (role i : ℕ) → Leaves b (f .kind) role → Passes b s at (field (whatOf (f .kind) (roleOf role) (slotOf i))) r) where
+      (h : (b : Bool) (role i : ℕ) → Leaves b (f .kind) role → Passes b s at (field (whatOf (f .kind) (roleOf role) (targetOf i))) r) where
     field-as : (y : Passed) → r ≡ y → (b : Bool) (v : Version) → (f .kind ≡ 0 → ⊥) → Leaves b (f .kind) (f .role)
         → bare b (run (itemTree v f) s at) ≡ passedTo y (λ a. bare b (run (onto v f (f .reps) tt) s a))
     field-as y q b v z l =
-        by-item b v _ (field-item v f z k) ∙ h b (f .role) (f .slot) l (onto v f (f .reps))
+        by-item b v _ (field-item v f z k) ∙ h b (f .role) (f .target) l (onto v f (f .reps))
         ∙ ap (λ (u : Passed). passedTo u (λ a. bare b (run (onto v f (f .reps) tt) s a))) q
 
     -- with nothing after it
     field-alone : (y : Passed) → r ≡ y → movedBy (f .reps) (skipOf (passedTo y (λ a. end a))) ≡ movedOf s at f
     unfolding run bare
     field-alone y q =
-        let t : Tree = field (whatOf (f .kind) (roleOf (f .role)) (slotOf (f .slot))) (λ u. stop) in
+        let t : Tree = field (whatOf (f .kind) (roleOf (f .role)) (targetOf (f .target))) (λ u. stop) in
         let e : aloneTree f ≡ t = rw (ne-eqb (f .kind) 16 (λ e. omega arith), lt-ltb (f .kind) 16 k) in
         by-alone (f .reps) _ (rw (le-leb (f .kind) 16 (omega arith)))
-        (ap (λ (x : Tree). skipOf (run x s at)) e ∙ sym (skip-bare false (run t s at)) ∙ ap skipOf (h false (f .role) (f .slot) (skip-leaves (f .kind) (f .role)) (λ u. stop))
+        (ap (λ (x : Tree). skipOf (run x s at)) e ∙ sym (skip-bare false (run t s at)) ∙ ap skipOf (h false (f .role) (f .target) (skip-leaves (f .kind) (f .role)) (λ u. stop))
         ∙ ap (λ (u : Passed). skipOf (passedTo u (λ a. end a))) q)
 
     pub field-refused : (x : Refusal) → r ≡ P.Refused x → Took s at r → Meets (M.Refused x)
@@ -81,16 +81,16 @@ module _ (s : List ℕ) (at : ℕ) (f : Item) where
     field-moves next q o = (λ b v z l. field-as (P.Past next) q b v z l, ((λ e. absurd (omega arith), λ e. subst (Took s at) q o), field-alone (P.Past next) q))
 
   module _ (k : 16 ≤ f .kind) (j : f .kind ≡ 16 → ⊥) (m : Number) (e : numRead m ≡ peekNumber s at) where
-    times-alone : (n : ℕ) (t : Pieces) → timesOf (f .kind) (numberAt s at) ≡ n → run (ask (slotOf (f .slot)) (λ n. stop)) s at ≡ t → movedBy n (skipOf t) ≡ movedOf s at f
+    times-alone : (n : ℕ) (t : Pieces) → timesOf (f .kind) (numberAt s at) ≡ n → run (ask (targetOf (f .target)) (λ n. stop)) s at ≡ t → movedBy n (skipOf t) ≡ movedOf s at f
     times-alone n t p q =
-        let e : aloneTree f ≡ ask (slotOf (f .slot)) (λ n. stop) = rw (ne-eqb (f .kind) 16 j, le-ltb (f .kind) 16 k) in
+        let e : aloneTree f ≡ ask (targetOf (f .target)) (λ n. stop) = rw (ne-eqb (f .kind) 16 j, le-ltb (f .kind) 16 k) in
         by-alone n _ (rw (lt-leb (f .kind) 16 (omega arith)) p) (ap (λ (x : Tree). skipOf (run x s at)) e ∙ ap skipOf q)
 
     pub times-cut : m ≡ Short → (x : Refusal) → x ≡ plain 1 at → Meets (M.Refused x)
     unfolding skipOf
     times-cut q x p = (
-      λ b v z l. by-item b v _ (times-item v f k j) ∙ cut-passes s at m e q x p b (slotOf (f .slot)) (λ t n. onto v f (timesOf (f .kind) n) tt) (λ u. stop),
-      (plain-is _ _ _ p, ap M.Refused p ∙ times-alone _ (fault 1 at) refl (ask-cut s at m e q (slotOf (f .slot)) (λ n. stop))),
+      λ b v z l. by-item b v _ (times-item v f k j) ∙ cut-passes s at m e q x p b (targetOf (f .target)) (λ t n. onto v f (timesOf (f .kind) n) tt) (λ u. stop),
+      (plain-is _ _ _ p, ap M.Refused p ∙ times-alone _ (fault 1 at) refl (ask-cut s at m e q (targetOf (f .target)) (λ n. stop))),
     )
 
     pub times-moves : (n : ℕ) → m ≡ Value n → (t : ℕ) → t ≡ timesOf (f .kind) n → Meets (M.Past (at + 8) t)
@@ -99,11 +99,11 @@ module _ (s : List ℕ) (at : ℕ) (f : Item) where
         let h = number-known s at m e n q in (
           λ b v z l.
               by-item b v _ (times-item v f k j)
-              ∙ ap (bare b) (ask-found s at m e n q (slotOf (f .slot)) (λ n. onto v f (timesOf (f .kind) n) tt))
+              ∙ ap (bare b) (ask-found s at m e n q (targetOf (f .target)) (λ n. onto v f (timesOf (f .kind) n) tt))
               ∙ ap (λ (x : ℕ). bare b (run (onto v f x tt) s (at + 8))) (sym g),
           (
             (λ i. absurd (j i), λ i. (omega arith, h .0)),
-            times-alone t _ (ap (timesOf (f .kind)) (sym (h .1)) ∙ sym g) (ask-found s at m e n q (slotOf (f .slot)) (λ n. stop)),
+            times-alone t _ (ap (timesOf (f .kind)) (sym (h .1)) ∙ sym g) (ask-found s at m e n q (targetOf (f .target)) (λ n. stop)),
           ),
         )
 

@@ -8,7 +8,7 @@ use native.Mathlib.Omega.{arith}
 use Rattle.layouts.specs.Primitive.{numberAt}
 use Rattle.layouts.specs.declared.Refusal.{Refusal}
 use Rattle.layouts.specs.Refusal.{plain}
-use Rattle.layouts.specs.Shape.{Slot, dropped, Role, passed, checked, kept, Tree, ask, say, frames, strings, field}
+use Rattle.layouts.specs.Shape.{Target, dropped, Role, passed, checked, kept, Tree, ask, say, frames, strings, field}
 use Rattle.layouts.specs.Pieces.{textOf, chunkOf, afterText, run}
 use Rattle.layouts.specs.Calls.{peekNumber}
 use Rattle.numbers.specs.declared.Number.{Number}
@@ -21,11 +21,11 @@ use Rattle.pieces.specs.Pieces.{numRead, textFound, chunkFound}
 use Rattle.pieces.proofs.Numbers.{number-known}
 use Rattle.pieces.proofs.Found.{chunkRead, wrong-plain}
 use Rattle.pieces.proofs.Nodes.{ask-cut, ask-found, say-as, whole-found, framesBy, frames-as, last-found, part-found}
-use Rattle.table.specs.Table.{roleOf, slotOf, whatOf}
+use Rattle.table.specs.Table.{roleOf, targetOf, whatOf}
 use Rattle.walk_strings.specs.declared.Passed.{Passed}
 use Rattle.walk_strings.specs.declared.Passed.the-variants as P
 use Rattle.walk_strings.specs.Strings.{series, stays, textIf, bare, Passes, PastFrom}
-use Rattle.walk_items.specs.Items.{slotFor, afterNumber}
+use Rattle.walk_items.specs.Items.{targetFor, afterNumber}
 use Rattle.walk_items.proofs.Fields.{is-text, is-framed, is-number, after-set, after-pairs, after-false, after-true, after-type-0, after-typed, after-nothing}
 use Rattle.walk_pass.specs.Passing.{Leaves, Took}
 
@@ -52,12 +52,12 @@ module _ (s : List ℕ) (at : ℕ) where
 
   -- ---- a number
   module _ (m : Number) (e : numRead m ≡ peekNumber s at) where
-    pub cut-passes : m ≡ Short → (x : Refusal) → x ≡ plain 1 at → (b : Bool) (i : Slot) (j : (Unit {0} → Tree) → ℕ → Tree) → Passes b s at (λ k. ask i (j k)) (P.Refused x)
+    pub cut-passes : m ≡ Short → (x : Refusal) → x ≡ plain 1 at → (b : Bool) (i : Target) (j : (Unit {0} → Tree) → ℕ → Tree) → Passes b s at (λ k. ask i (j k)) (P.Refused x)
     unfolding bare
     cut-passes q x p b i j k = rw p (ap (bare b) (ask-cut s at m e q i (j k)))
 
     module _ (n : ℕ) (q : m ≡ Value n) where
-      pub value-passes : (b : Bool) (i : Slot) (j : (Unit {0} → Tree) → ℕ → Tree) (r : Passed) → Passes b s (at + 8) (λ k. j k n) r → Passes b s at (λ k. ask i (j k)) r
+      pub value-passes : (b : Bool) (i : Target) (j : (Unit {0} → Tree) → ℕ → Tree) (r : Passed) → Passes b s (at + 8) (λ k. j k n) r → Passes b s at (λ k. ask i (j k)) r
       unfolding bare
       value-passes b i j r h k = ap (bare b) (ask-found s at m e n q i (j k)) ∙ h k
 
@@ -68,7 +68,7 @@ module _ (s : List ℕ) (at : ℕ) where
       pub number-took : Took s at (P.Past (at + 8))
       number-took = let h = number-known s at m e n q in (omega arith, h .0)
 
-      pub number-passes : (b : Bool) (i : Slot) → Passes b s at (λ k. ask i (λ v. k tt)) (P.Past (at + 8))
+      pub number-passes : (b : Bool) (i : Target) → Passes b s at (λ k. ask i (λ v. k tt)) (P.Past (at + 8))
       number-passes b i = value-passes b i (λ k v. k tt) (P.Past (at + 8)) (λ k. refl)
 
   -- ---- a string
@@ -131,10 +131,10 @@ module _ (s : List ℕ) (at kind n : ℕ) (r : Passed) where
   unfolding series strings
   pairs-after e h b role l = passes-as s at b _ _ r (λ k. after-pairs kind role n k e) (h b (roleOf role) (l .1 (omega arith) (omega arith)))
 
-  pub true-after : kind ≡ 6 → (n ≡ 0 → ⊥) → ((b : Bool) (i : Slot) → Passes b s at (λ k. ask i (λ v. k tt)) r) → After
+  pub true-after : kind ≡ 6 → (n ≡ 0 → ⊥) → ((b : Bool) (i : Target) → Passes b s at (λ k. ask i (λ v. k tt)) r) → After
   true-after e z h b role l = passes-as s at b _ _ r (λ k. after-true kind role n k e z) (h b dropped)
 
-  pub type-after : kind ≡ 7 → n ≡ 0 → ((b : Bool) (i : Slot) → Passes b s at (λ k. ask i (λ v. k tt)) r) → After
+  pub type-after : kind ≡ 7 → n ≡ 0 → ((b : Bool) (i : Target) → Passes b s at (λ k. ask i (λ v. k tt)) r) → After
   type-after e z h b role l = passes-as s at b _ _ r (λ k. after-type-0 kind role n k e z) (h b dropped)
 
   pub typed-after : kind ≡ 7 → (n ≡ 0 → ⊥) → ((b : Bool) (m : Role) → stays b m ≡ false → Passes b s at (say m) r) → After
@@ -150,7 +150,7 @@ module _ (s : List ℕ) (at kind n : ℕ) where
 -- ---- a field by its kind
 module _ (s : List ℕ) (at kind : ℕ) (r : Passed) where
   abbrev FieldPasses : Type 0
-  FieldPasses = (b : Bool) (role i : ℕ) → Leaves b kind role → Passes b s at (field (whatOf kind (roleOf role) (slotOf i))) r
+  FieldPasses = (b : Bool) (role i : ℕ) → Leaves b kind role → Passes b s at (field (whatOf kind (roleOf role) (targetOf i))) r
 
   pub text-field : kind ≡ 2 → ((b : Bool) (m : Role) → stays b m ≡ false → Passes b s at (say m) r) → FieldPasses
   text-field e h b role i l = passes-as s at b _ _ r (λ k. is-text kind role i k e) (h b (roleOf role) (l .1 (omega arith) (omega arith)))
@@ -160,8 +160,8 @@ module _ (s : List ℕ) (at kind : ℕ) (r : Passed) where
 
 module _ (s : List ℕ) (at kind : ℕ) (x : kind ≡ 2 → ⊥) (y : kind ≡ 5 → ⊥) (m : Number) (e : numRead m ≡ peekNumber s at) where
   pub cut-field : m ≡ Short → (z : Refusal) → z ≡ plain 1 at → FieldPasses s at kind (P.Refused z)
-  cut-field q z p b role i l = passes-as s at b _ _ (P.Refused z) (λ k. is-number kind role i k x y) (cut-passes s at m e q z p b (slotOf (slotFor kind i)) (λ k n. afterNumber kind role n k))
+  cut-field q z p b role i l = passes-as s at b _ _ (P.Refused z) (λ k. is-number kind role i k x y) (cut-passes s at m e q z p b (targetOf (targetFor kind i)) (λ k n. afterNumber kind role n k))
 
   pub number-field : (n : ℕ) → m ≡ Value n → (r : Passed) → After s (at + 8) kind n r → FieldPasses s at kind r
   number-field n q r h b role i l =
-      passes-as s at b _ _ r (λ k. is-number kind role i k x y) (value-passes s at m e n q b (slotOf (slotFor kind i)) (λ k n. afterNumber kind role n k) r (h b role l))
+      passes-as s at b _ _ r (λ k. is-number kind role i k x y) (value-passes s at m e n q b (targetOf (targetFor kind i)) (λ k n. afterNumber kind role n k) r (h b role l))

@@ -9,7 +9,7 @@ use Rattle.layouts.specs.Primitive.{pick, numberAt, Version, Result, ok, refuse
 use Rattle.layouts.specs.Refusal.{refusal}
 use Rattle.layouts.specs.Shape.{Tree, ask, stop, field}
 use Rattle.layouts.specs.Pieces.{Pieces, end, fault, run, skipOf}
-use Rattle.table.specs.Table.{roleOf, slotOf, whatOf}
+use Rattle.table.specs.Table.{roleOf, targetOf, whatOf}
 use Rattle.walk_strings.specs.declared.Passed.{Passed}
 use Rattle.walk_strings.specs.declared.Passed.the-variants as P
 use Rattle.walk_strings.specs.Strings.{stays, bare}
@@ -42,7 +42,7 @@ MovedOn s at f (M.Refused r) = r .stream ≡ 0
 abbrev pub aloneTree : Item → Tree
 aloneTree f =
     pick (eqb (f .kind) 16) stop
-    (pick (ltb (f .kind) 16) (field (whatOf (f .kind) (roleOf (f .role)) (slotOf (f .slot))) (λ u. stop)) (ask (slotOf (f .slot)) (λ n. stop)))
+    (pick (ltb (f .kind) 16) (field (whatOf (f .kind) (roleOf (f .role)) (targetOf (f .target))) (λ u. stop)) (ask (targetOf (f .target)) (λ n. stop)))
 
 abbrev pub movedBy : (reps : ℕ) → Result ℕ → Moved
 movedBy n (ok at) = M.Past at n

@@ -4,9 +4,9 @@ ghost use mathlib.Core.Path.{_≡_};
 ghost use mathlib.Core.Bool.{Bool, false};
 ghost use Prim.Native.Nat.{ℕ, suc};
 ghost use Rattle.layouts.specs.Primitive.{Version};
-ghost use Rattle.layouts.specs.Shape.{Role, Slot, ask, say, frames, field};
+ghost use Rattle.layouts.specs.Shape.{Role, Target, ask, say, frames, field};
 ghost use Rattle.layouts.specs.Pieces.{run, skipOf};
-ghost use Rattle.table.specs.Table.{roleOf, slotOf, whatOf};
+ghost use Rattle.table.specs.Table.{roleOf, targetOf, whatOf};
 ghost use Rattle.walk_strings.specs.Strings.{stays, bare, Passes, PastFrom};
 ghost use Rattle.walk_items.specs.Items.{versionOf, restTree, afterNumber, itemTree, piecesOf};
 ghost use Rattle.walk_pass.specs.Passing.{Leaves, Took, movedTo, MovedOn, movedOf, staysIn, stopTo, fuelOf, StopOn, passOf};
@@ -33,7 +33,7 @@ pub enum Stop {
 }
 
 fn pass_number(s: &[u8], at: usize) -> Passed
-    ensures law { λ r. ⌜ ((b : Bool) (i : Slot) → Passes b (now (s .entry)) at (λ k. ask i (λ n. k tt)) r) ⌝ }
+    ensures law { λ r. ⌜ ((b : Bool) (i : Target) → Passes b (now (s .entry)) at (λ k. ask i (λ n. k tt)) r) ⌝ }
     ensures on { λ r. ⌜ Took (now (s .entry)) at r ⌝ }
 {
     let m = pieces::number_at(s, at);
@@ -115,7 +115,7 @@ fn pass_after(s: &[u8], at: usize, kind: u8, n: u64) -> Passed
 }
 
 fn pass_field(s: &[u8], at: usize, kind: u8) -> Passed
-    ensures law { λ r. ⌜ ((b : Bool) (role i : ℕ) → Leaves b kind role → Passes b (now (s .entry)) at (field (whatOf kind (roleOf role) (slotOf i))) r) ⌝ }
+    ensures law { λ r. ⌜ ((b : Bool) (role i : ℕ) → Leaves b kind role → Passes b (now (s .entry)) at (field (whatOf kind (roleOf role) (targetOf i))) r) ⌝ }
     ensures on { λ r. ⌜ Took (now (s .entry)) at r ⌝ }
 {
     if kind == table::STR {

@@ -8,7 +8,7 @@ use Rattle.layouts.specs.declared.Record.{Record}
 use Rattle.layouts.specs.declared.Refusal.{Refusal}
 use Rattle.layouts.specs.Refusal.{plain, refusedBy}
 use Rattle.layouts.specs.Calls.{peekNumber}
-use Rattle.layouts.specs.Shape.{Slot, dropped, Tree, ask}
+use Rattle.layouts.specs.Shape.{Target, dropped, Tree, ask}
 use Rattle.layouts.specs.Pieces.{run}
 use Rattle.layouts.specs.Record.{noted, withEntries}
 use Rattle.layouts.specs.Judge.{judgeOf, entriesOf}
@@ -25,11 +25,11 @@ pub same-entries : (x : Record) (n : ℕ) → x .entries ≡ n → x ≡ withEnt
 same-entries x n z = ap (λ (i : ℕ). withEntries x i) z
 
 module _ (s : List ℕ) (at : ℕ) (m : Number) (e : numRead m ≡ peekNumber s at) where
-  pub cut-judges : (r : Refusal) → r ≡ plain 1 at → m ≡ Short → (slots room : ℕ) (x : Record) (i : Slot) (j : ℕ → Tree) → judgeOf s slots room x (run (ask i j) s at) ≡ refusedBy r
+  pub cut-judges : (r : Refusal) → r ≡ plain 1 at → m ≡ Short → (slots room : ℕ) (x : Record) (i : Target) (j : ℕ → Tree) → judgeOf s slots room x (run (ask i j) s at) ≡ refusedBy r
   unfolding judgeOf
   cut-judges r g q slots room x i j = rw g (ap (judgeOf s slots room x) (ask-cut s at m e q i j))
 
-  cut-holds : m ≡ Short → (slots : ℕ) (w : List ℕ) (n : ℕ) (i : Slot) (j : ℕ → Tree) → held s slots w n (run (ask i j) s at) ≡ w
+  cut-holds : m ≡ Short → (slots : ℕ) (w : List ℕ) (n : ℕ) (i : Target) (j : ℕ → Tree) → held s slots w n (run (ask i j) s at) ≡ w
   unfolding keptOf
   cut-holds q slots w n i j = ap (held s slots w n) (ask-cut s at m e q i j) ∙ nothing-in w n
 
@@ -37,15 +37,15 @@ module _ (s : List ℕ) (at : ℕ) (m : Number) (e : numRead m ≡ peekNumber s 
   dropped-cut n r g q slots w = record { judges = λ room k x z. cut-judges r g q slots room x dropped (λ v. k tt); keeps = λ k. tt; holds = λ k. cut-holds q slots w n dropped (λ v. k tt) }
 
   module _ (v : ℕ) (q : m ≡ Value v) where
-    pub ask-judges : (slots room : ℕ) (x : Record) (i : Slot) (j : ℕ → Tree) → judgeOf s slots room x (run (ask i j) s at) ≡ judgeOf s slots room (noted x i v) (run (j v) s (at + 8))
+    pub ask-judges : (slots room : ℕ) (x : Record) (i : Target) (j : ℕ → Tree) → judgeOf s slots room x (run (ask i j) s at) ≡ judgeOf s slots room (noted x i v) (run (j v) s (at + 8))
     unfolding judgeOf
     ask-judges slots room x i j = ap (judgeOf s slots room x) (ask-found s at m e v q i j)
 
-    pub ask-keeps : (w : List ℕ) (n : ℕ) (i : Slot) (j : ℕ → Tree) → ahead w n (run (ask i j) s at) ≡ ahead w n (run (j v) s (at + 8))
+    pub ask-keeps : (w : List ℕ) (n : ℕ) (i : Target) (j : ℕ → Tree) → ahead w n (run (ask i j) s at) ≡ ahead w n (run (j v) s (at + 8))
     unfolding entriesOf
     ask-keeps w n i j = ap (ahead w n) (ask-found s at m e v q i j)
 
-    ask-holds : (slots : ℕ) (w : List ℕ) (n : ℕ) (i : Slot) (j : ℕ → Tree) → held s slots w n (run (ask i j) s at) ≡ held s slots w n (run (j v) s (at + 8))
+    ask-holds : (slots : ℕ) (w : List ℕ) (n : ℕ) (i : Target) (j : ℕ → Tree) → held s slots w n (run (ask i j) s at) ≡ held s slots w n (run (j v) s (at + 8))
     unfolding keptOf
     ask-holds slots w n i j = ap (held s slots w n) (ask-found s at m e v q i j)
 

@@ -25,5 +25,5 @@ feed-number-spec =
     (λ c. search needs)
     (λ c. search needs)
     (λ c. (number-cuts _ _ _ _ _ _ _ (c .before .before .before .before .before .pre .0) (c .before .before .before .before .before .pre .1) (c .before .before .before .before .before .pre .2) (c .before .before .before .before .before .pre .3) _ (c .before .before .before .number-at .ensures) _ (c .refuse .ensures) (c .before .enum-told .given .1), tt))
-    (λ c. (λ room. after-refused _ _ _ _ _ _ _ (c .before .before .before .before .before .before .before .before .before .before .before .before .pre .0) (c .before .before .before .before .before .before .before .before .before .before .before .before .pre .1) (c .before .before .before .before .before .before .before .before .before .before .before .before .pre .2) (c .before .before .before .before .before .before .before .before .before .before .before .before .pre .3) _ (c .before .before .before .before .before .before .before .before .before .before .number-at .ensures) _ (c .before .before .before .before .before .before .before .before .m .given .1) (omega (arith, c .before .before .before .before .before .before .if1 .left, c .before .before .before .before .before .before .before .before .before .before .before .before .pre)) _ (c .before .before .before .before .before .slot-for .ensures) _ _ (c .before .before .before .judge-after .ensures .0) room _ (c .before .k .given .1), tt))
-    (λ c. (λ room. after-fed _ _ _ _ _ _ _ (c .before .before .before .before .before .before .before .before .before .before .before .before .pre .0) (c .before .before .before .before .before .before .before .before .before .before .before .before .pre .1) (c .before .before .before .before .before .before .before .before .before .before .before .before .pre .2) (c .before .before .before .before .before .before .before .before .before .before .before .before .pre .3) _ (c .before .before .before .before .before .before .before .before .before .before .number-at .ensures) _ (c .before .before .before .before .before .before .before .before .m .given .1) (omega (arith, c .before .before .before .before .before .before .if1 .left, c .before .before .before .before .before .before .before .before .before .before .before .before .pre)) _ (c .before .before .before .before .before .slot-for .ensures) _ _ (c .before .before .before .judge-after .ensures .0) room _ _ (c .before .k2 .given .1), after-took (now (c .before .before .before .before .before .before .before .before .before .before .before .before .args .s)) _ _ _ _ (number-known (now (c .before .before .before .before .before .before .before .before .before .before .before .before .args .s)) _ _ (c .before .before .before .before .before .before .before .before .before .before .number-at .ensures) _ (c .before .before .before .before .before .before .before .before .m .given .1) .0) (c .before .before .before .judge-after .ensures .1) (c .before .k2 .given .1))))
+    (λ c. (λ room. after-refused _ _ _ _ _ _ _ (c .before .before .before .before .before .before .before .before .before .before .before .before .pre .0) (c .before .before .before .before .before .before .before .before .before .before .before .before .pre .1) (c .before .before .before .before .before .before .before .before .before .before .before .before .pre .2) (c .before .before .before .before .before .before .before .before .before .before .before .before .pre .3) _ (c .before .before .before .before .before .before .before .before .before .before .number-at .ensures) _ (c .before .before .before .before .before .before .before .before .m .given .1) (omega (arith, c .before .before .before .before .before .before .if1 .left, c .before .before .before .before .before .before .before .before .before .before .before .before .pre)) _ (c .before .before .before .before .before .target-for .ensures) _ _ (c .before .before .before .judge-after .ensures .0) room _ (c .before .k .given .1), tt))
+    (λ c. (λ room. after-fed _ _ _ _ _ _ _ (c .before .before .before .before .before .before .before .before .before .before .before .before .pre .0) (c .before .before .before .before .before .before .before .before .before .before .before .before .pre .1) (c .before .before .before .before .before .before .before .before .before .before .before .before .pre .2) (c .before .before .before .before .before .before .before .before .before .before .before .before .pre .3) _ (c .before .before .before .before .before .before .before .before .before .before .number-at .ensures) _ (c .before .before .before .before .before .before .before .before .m .given .1) (omega (arith, c .before .before .before .before .before .before .if1 .left, c .before .before .before .before .before .before .before .before .before .before .before .before .pre)) _ (c .before .before .before .before .before .target-for .ensures) _ _ (c .before .before .before .judge-after .ensures .0) room _ _ (c .before .k2 .given .1), after-took (now (c .before .before .before .before .before .before .before .before .before .before .before .before .args .s)) _ _ _ _ (number-known (now (c .before .before .before .before .before .before .before .before .before .before .before .before .args .s)) _ _ (c .before .before .before .before .before .before .before .before .before .before .number-at .ensures) _ (c .before .before .before .before .before .before .before .before .m .given .1) .0) (c .before .before .before .judge-after .ensures .1) (c .before .k2 .given .1))))

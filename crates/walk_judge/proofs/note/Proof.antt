@@ -1,4 +1,4 @@
--- `walk_judge::note` meets its contract: by the slot.
+-- `walk_judge::note` meets its contract: by the target.
 use borrow.Author.Needs.{needs}
 use Rattle.walk_judge.proofs.note.Statement.{statement}
 use Rattle.walk_judge.proofs.note.Tie as tie

@@ -1,10 +1,10 @@
--- `walk_judge::slot_for` meets its contract: by the kind of the field.
-use Rattle.walk_judge.proofs.slot_for.Statement.{statement}
-use Rattle.walk_judge.proofs.slot_for.Tie as tie
+-- `walk_judge::target_for` meets its contract: by the kind of the field.
+use Rattle.walk_judge.proofs.target_for.Statement.{statement}
+use Rattle.walk_judge.proofs.target_for.Tie as tie
 use borrow.Author.Tests.{eq-eqb, ne-eqb}
 
-pub slot-for-spec : {M : Type 1} → statement M
-slot-for-spec =
+pub target-for-spec : {M : Type 1} → statement M
+target-for-spec =
     tie.close
     (tie.spec
     (λ c. simp (eq-eqb _ _ (c .if1 .taken)))
