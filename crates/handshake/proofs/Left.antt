@@ -12,7 +12,8 @@ use Rattle.layouts.specs.Pieces.{Pieces, run, skipOf}
 use Rattle.layouts.specs.Record.{blank, recordOf}
 use Rattle.layouts.specs.Judge.{Ended, judgeOf, entriesOf}
 use Rattle.layouts.specs.Handshake.{Talk, turn, lost, over, Heard, heard, ifEnds, hear, Both, onStream, judgeHeard, heardEntries}
-use Rattle.layouts.proofs.Judge.{Read, judge-read}
+use Rattle.layouts.specs.Demands.{Read}
+use Rattle.layouts.proofs.Judge.{judge-read}
 use Rattle.layouts.proofs.Placed.{never-both}
 use Rattle.walk_judge.specs.declared.Outcome.the-variants.{Fine, Refused}
 use Rattle.walk_judge.specs.declared.Answer.{Answer}

@@ -15,7 +15,7 @@ use Rattle.layouts.specs.Pieces.{Pieces, number, text, half, chunk, end,
 use Rattle.layouts.specs.Record.{noted, isKept, entered, withPayload, recordOf}
 use Rattle.layouts.specs.Judge.{notText, textTaken, halfTaken, chunkTaken, Ended, judgeOf, entry, entriesOf, payloadOf}
 use Rattle.layouts.specs.Soft.{keptOf, orBad, unlessBad}
-use Rattle.layouts.specs.Demands.{RefusedBy}
+use Rattle.layouts.specs.Demands.{RefusedBy, Read}
 use Rattle.layouts.proofs.Placed.{never-both, Placed, on-number, on-text, on-half, on-chunk, on-end, on-fault, refused-from}
 
 -- a number moves neither entries nor payload
@@ -100,12 +100,6 @@ half-refused s m start len = by (notText s m start len)
     by : (b : Bool) → RefusedBy {A = Ended} (start + len) (pick b (refused badText start 0) (refused cutShort (start + len) 0))
     by true = (badText, start, refl, omega arith)
     by false = (cutShort, start + len, refl, omega arith)
-
--- an answer: where skipping ends, what the pieces make of the record, and that there was room
-pub record Read (slots room : ℕ) (r : Record) (p : Pieces) (x : Ended) : Type 0 where
-  pub skips : skipOf p ≡ ok (x .ends)
-  pub holds : x .found ≡ recordOf r p
-  pub fits : r .entries ≤ slots → r .payload ≤ room → (r .entries + keptOf p ≤ slots) × (r .payload + totalOf p ≤ room)
 
 module _ (s : List ℕ) (slots room : ℕ) where
   pub judge-room : (r : Record) (p : Pieces) (e : ℕ) → skipOf p ≡ ok e → r .entries + keptOf p ≤ slots → r .payload + totalOf p ≤ room

@@ -15,9 +15,9 @@ use Rattle.layouts.proofs.Views.{NumView, is-value, is-short, TextView,
 use Rattle.layouts.proofs.Judge.{noted-room}
 
 -- the same end or the same refusal
-pub data Alike : Result ℕ → Result Ended → Type 0 where
-  both-end : (r : Record) (e : ℕ) → Alike (ok e) (ok (record { found = r; ends = e }))
-  both-refuse : (which place : ℕ) → Alike (refused which place 0) (refused which place 0)
+pub data SameWay : Result ℕ → Result Ended → Type 0 where
+  both-end : (r : Record) (e : ℕ) → SameWay (ok e) (ok (record { found = r; ends = e }))
+  both-refuse : (which place : ℕ) → SameWay (refused which place 0) (refused which place 0)
 
 module _ (s : List ℕ) (slots room : ℕ) where
   -- what is left of the room is enough for what remains from a place on
@@ -25,14 +25,14 @@ module _ (s : List ℕ) (slots room : ℕ) where
   Roomy at r = r .payload + length s ≤ room + at
 
   lower-num : (i : Target) (at n : ℕ) (r : Record) (f f' : ℕ → Pieces) {m : Num} → NumView (length s) n at m
-      → Alike (skipOf (f n)) (judgeOf s slots room (noted r i n) (f' n)) → Alike (skipOf (afterNum m i at f)) (judgeOf s slots room r (afterNum m i at f'))
+      → SameWay (skipOf (f n)) (judgeOf s slots room (noted r i n) (f' n)) → SameWay (skipOf (afterNum m i at f)) (judgeOf s slots room r (afterNum m i at f'))
   unfolding afterNum skipOf judgeOf
   lower-num i at n r f f' (is-value h) g = g
   lower-num i at n r f f' (is-short h) g = both-refuse 1 at
 
   lower-text : (m : Role) (at n : ℕ) (r : Record) (f f' : ℕ → Pieces) {x : Text} → TextView (length s) n at x
-      → ((next : ℕ) → at ≤ next → Alike (skipOf (f next)) (judgeOf s slots room (entered r passed) (f' next)))
-      → Alike (skipOf (afterText x m f)) (judgeOf s slots room r (afterText x passed f'))
+      → ((next : ℕ) → at ≤ next → SameWay (skipOf (f next)) (judgeOf s slots room (entered r passed) (f' next)))
+      → SameWay (skipOf (afterText x m f)) (judgeOf s slots room r (afterText x passed f'))
   unfolding afterText skipOf judgeOf textTaken halfTaken notText
   lower-text m at n r f f' (no-length h) g = both-refuse 1 at
   lower-text m at n r f f' (too-long h l) g = both-refuse 2 at
@@ -41,9 +41,9 @@ module _ (s : List ℕ) (slots room : ℕ) where
   lower-text m at n r f f' (is-whole h l) g = g (at + 8 + n + padOf n) (omega arith)
 
   lower-chunk : (at n : ℕ) (r : Record) (again again' f f' : ℕ → Pieces) {x : Chunk} → ChunkView (length s) n at x → Roomy at r
-      → ((next : ℕ) (r : Record) → Roomy next r → Alike (skipOf (again next)) (judgeOf s slots room r (again' next)))
-      → ((next : ℕ) (r : Record) → Roomy next r → Alike (skipOf (f next)) (judgeOf s slots room r (f' next)))
-      → Alike (skipOf (afterChunk x again f)) (judgeOf s slots room r (afterChunk x again' f'))
+      → ((next : ℕ) (r : Record) → Roomy next r → SameWay (skipOf (again next)) (judgeOf s slots room r (again' next)))
+      → ((next : ℕ) (r : Record) → Roomy next r → SameWay (skipOf (f next)) (judgeOf s slots room r (f' next)))
+      → SameWay (skipOf (afterChunk x again f)) (judgeOf s slots room r (afterChunk x again' f'))
   unfolding afterChunk skipOf judgeOf chunkTaken
   lower-chunk at n r again again' f f' (no-size h) q g j = both-refuse 1 at
   lower-chunk at n r again again' f f' (is-last h z) q g j = j (at + 8) r (omega arith)
@@ -53,15 +53,15 @@ module _ (s : List ℕ) (slots room : ℕ) where
       rw (le-leb (r .payload + n) room (omega arith)) (g (at + 8 + n) (withPayload r (r .payload + n)) (omega arith))
 
   lower-chunks : (fuel at : ℕ) (r : Record) (f f' : ℕ → Pieces) → Roomy at r
-      → ((next : ℕ) (r : Record) → Roomy next r → Alike (skipOf (f next)) (judgeOf s slots room r (f' next)))
-      → Alike (skipOf (chunks fuel s at f)) (judgeOf s slots room r (chunks fuel s at f'))
+      → ((next : ℕ) (r : Record) → Roomy next r → SameWay (skipOf (f next)) (judgeOf s slots room r (f' next)))
+      → SameWay (skipOf (chunks fuel s at f)) (judgeOf s slots room r (chunks fuel s at f'))
   unfolding chunks skipOf judgeOf
   lower-chunks zero at r f f' q g = both-refuse 1 at
   lower-chunks (suc fuel) at r f f' q g =
       lower-chunk at (numberAt s at) r (λ a. chunks fuel s a f) (λ a. chunks fuel s a f') f f' (chunk-view (length s) (numberAt s at) at) q
       (λ a r p. lower-chunks fuel a r f f' p g) g
 
-  pub lower-alike : (t : Tree) (at : ℕ) (r : Record) → r .payload + length s ≤ room + at → Alike (skipOf (run t s at)) (judgeOf s slots room r (run (lowerCase t) s at))
+  pub lower-alike : (t : Tree) (at : ℕ) (r : Record) → r .payload + length s ≤ room + at → SameWay (skipOf (run t s at)) (judgeOf s slots room r (run (lowerCase t) s at))
   unfolding run skipOf judgeOf entered
   lower-alike (ask i k) at r q =
       let n = numberAt s at in

@@ -19,7 +19,7 @@ use Rattle.layouts.specs.Handshake.{hear, judgeHeard, handshake, daemonH
 use Rattle.layouts.specs.Demands.{Bytes}
 use Rattle.layouts.proofs.Placed.{never-both}
 use Rattle.layouts.proofs.Calls.{refused-of}
-use Rattle.layouts.proofs.LowerCase.{Alike, both-end, both-refuse, lower-alike}
+use Rattle.layouts.proofs.LowerCase.{SameWay, both-end, both-refuse, lower-alike}
 use Rattle.layouts.proofs.Faults.{refused-same, ended-same, answers-ok, refuses-refused}
 use Rattle.layouts.proofs.Outcomes.{Outcome, answers, refuses, outcome}
 use Rattle.layouts.proofs.Turns.{parts-refused, refused-parts, handshake-loses, daemon-loses}
@@ -106,23 +106,23 @@ module _ (op : ℕ) (v : Version) (s : List ℕ) (bytes : Bytes s) where
       refused-stream s bytes 1 0 (skippedTree op v) 0 blank which place stream (refused-of v (skippedKinds op) _ which place stream e)
 
 -- ---- skipping a reply
-refused-alike : {o : Result ℕ} {o' : Result Ended} → Alike o o' → (which place : ℕ) → (o ≡ refused which place 0) ↔ (o' ≡ refused which place 0)
+refused-alike : {o : Result ℕ} {o' : Result Ended} → SameWay o o' → (which place : ℕ) → (o ≡ refused which place 0) ↔ (o' ≡ refused which place 0)
 refused-alike (both-end r e) which place = (λ q. absurd (never-both (sym q)), λ q. absurd (never-both (sym q)))
 refused-alike (both-refuse w p) which place =
     (λ q. let z = refused-same q in rw (z .0, z .1), λ q. let z = refused-same q in rw (z .0, z .1))
 
-stream-alike : {o : Result ℕ} {o' : Result Ended} → Alike o o' → (which place stream : ℕ) → o ≡ refused which place stream → stream ≡ 0
+stream-alike : {o : Result ℕ} {o' : Result Ended} → SameWay o o' → (which place stream : ℕ) → o ≡ refused which place stream → stream ≡ 0
 stream-alike (both-end r e) which place stream q = absurd (never-both (sym q))
 stream-alike (both-refuse w p) which place stream q = sym (refused-same q .2)
 
-ends-alike : {o : Result ℕ} {o' : Result Ended} → Alike o o' → (e : ℕ) → (o ≡ ok e) ↔ ((r : Record) × (o' ≡ ok (record { found = r; ends = e })))
+ends-alike : {o : Result ℕ} {o' : Result Ended} → SameWay o o' → (e : ℕ) → (o ≡ ok e) ↔ ((r : Record) × (o' ≡ ok (record { found = r; ends = e })))
 ends-alike (both-end r e) e' =
     (λ q. let z : e ≡ e' = cc in (r, ap (λ (n : ℕ). ok (record { found = r; ends = n })) z), λ q. ap ok (ap (λ (x : Ended). x .ends) (ended-same (q .1))))
 ends-alike (both-refuse w p) e' = (λ q. absurd (never-both q), λ q. absurd (never-both (q .1)))
 
 -- for every tree from every place on: skipping is reading with every string lower-case, no slots, and room for as much as the stream is long
 module _ (s : List ℕ) (bytes : Bytes s) (t : Tree) (at : ℕ) where
-  alike : Alike (skipOf (run t s at)) (judgeOf s 0 (length s) blank (run (lowerCase t) s at))
+  alike : SameWay (skipOf (run t s at)) (judgeOf s 0 (length s) blank (run (lowerCase t) s at))
   alike = lower-alike s 0 (length s) t at blank (omega arith)
 
   -- skipping refuses exactly when that does

@@ -6,16 +6,17 @@ use mathlib.Core.Bool.{Bool, true, _||_}
 use lib.ListN.{length, getD, take, drop}
 use lib.Dec.{eqb}
 use Rattle.text.specs.Rfc3629.{Text}
+use Rattle.layouts.specs.declared.Record.{Record}
 use Rattle.layouts.specs.Primitive.{pick, numberAt, limit, padOf, Version, version, fromWire, atLeast, badText, Result, ok, refused}
 use Rattle.layouts.specs.Shape.{Target, asCount, Role, kept, set}
-use Rattle.layouts.specs.Pieces.{Pieces, number, text, half, chunk, end, fault, run}
+use Rattle.layouts.specs.Pieces.{Pieces, number, text, half, chunk, end, fault, run, skipOf, totalOf}
 use Rattle.layouts.specs.Record.{blank, recordOf}
-use Rattle.layouts.specs.Judge.{isDecoded, entriesOf}
+use Rattle.layouts.specs.Judge.{isDecoded, Ended, entriesOf}
 use Rattle.layouts.specs.Operations.{Kinds}
 use Rattle.layouts.specs.Calls.{Answer, answered, field}
 use Rattle.layouts.specs.Handshake.{Heard, heard, failed, ended, streamOf, Both, numberIn, handshakeAnswer}
 use Rattle.layouts.specs.Writers.{stringBytes, setBytes, textsOf}
-use Rattle.layouts.specs.Soft.{recordHeard}
+use Rattle.layouts.specs.Soft.{keptOf, recordHeard}
 
 -- the elements of a list are bytes; of a `&[u8]` they are
 abbrev pub Bytes : List ℕ → Type 0
@@ -30,6 +31,12 @@ abbrev pub RefusedBy : {A : Type 0} → (place : ℕ) → Result A → Type 0
 RefusedBy place o = (which : ℕ) × (earlier : ℕ) × (o ≡ refused which earlier 0) × (earlier ≤ place)
 
 -- ---- demand 2
+-- an answer: where skipping ends, what the pieces make of the record, and that there was room
+pub record Read (slots room : ℕ) (r : Record) (p : Pieces) (x : Ended) : Type 0 where
+  pub skips : skipOf p ≡ ok (x .ends)
+  pub holds : x .found ≡ recordOf r p
+  pub fits : r .entries ≤ slots → r .payload ≤ room → (r .entries + keptOf p ≤ slots) × (r .payload + totalOf p ≤ room)
+
 -- strings that are text of at most 268,435,456 bytes
 abbrev pub Strings : List (List ℕ) → Type 0
 Strings [] = Unit {0}

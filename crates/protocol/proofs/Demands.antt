@@ -54,10 +54,10 @@ module _ {A : Type 0} where
   abbrev pub streamOf : Lent A → List ℕ
   streamOf a = now (a .1 .1 .1 .0)
 
-  abbrev entriesAt : Lent (RefT (List ℕ) × A) → List ℕ
+  abbrev pub entriesAt : Lent (RefT (List ℕ) × A) → List ℕ
   entriesAt a = now (a .1 .1 .1 .1 .0)
 
-  abbrev payloadAt : Lent (RefT (List ℕ) × (RefT (List ℕ) × A)) → List ℕ
+  abbrev pub payloadAt : Lent (RefT (List ℕ) × (RefT (List ℕ) × A)) → List ℕ
   payloadAt a = now (a .1 .1 .1 .1 .1 .0)
 
   -- the pieces of the arguments, or of the reply, that stand in the stream

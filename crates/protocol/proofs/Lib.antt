@@ -1,5 +1,6 @@
--- `Unique` and `Demands` are what docs/PROOFS.md cites; the others serve the functions' proofs.
+-- `Unique`, `Demands` and `Refused` are what docs/PROOFS.md cites; the others serve the functions' proofs.
 pub mod Read
 pub mod Rows
 pub mod Unique
 pub mod Demands
+pub mod Refused

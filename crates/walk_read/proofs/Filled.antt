@@ -18,7 +18,8 @@ use Rattle.layouts.specs.Judge.{Ended, entriesOf, payloadOf}
 use Rattle.layouts.specs.Soft.{keptOf}
 use Rattle.layouts.specs.Operations.{Kinds, kindOf}
 use Rattle.layouts.specs.Calls.{answered}
-use Rattle.layouts.proofs.Judge.{Read, judge-read, record-room, entries-length, payload-length}
+use Rattle.layouts.specs.Demands.{Read}
+use Rattle.layouts.proofs.Judge.{judge-read, record-room, entries-length, payload-length}
 use Rattle.layouts.proofs.Placed.{run-placed}
 use Rattle.table.specs.Table.{kindNumbered}
 use Rattle.walk_items.specs.declared.Brief.{Brief}

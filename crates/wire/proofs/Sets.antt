@@ -19,7 +19,8 @@ use Rattle.layouts.specs.Calls.{field, peekNumber, readStringSet, skipStringSet
 use Rattle.layouts.proofs.Steps.{ask-short, ask-value}
 use Rattle.layouts.proofs.Views.{TextView, no-length, too-long, no-contents, no-padding, is-whole, text-view}
 use Rattle.layouts.proofs.Placed.{never-both}
-use Rattle.layouts.proofs.Judge.{Read, judge-read, record-room, entries-length}
+use Rattle.layouts.specs.Demands.{Read}
+use Rattle.layouts.proofs.Judge.{judge-read, record-room, entries-length}
 use Rattle.numbers.specs.declared.Number.{Number}
 use Rattle.numbers.specs.declared.Number.the-variants.{Value, Short}
 use Rattle.pieces.specs.Pieces.{numRead}
