@@ -39,17 +39,12 @@ module _ (bytes es : List ℕ) (i : ℕ) where
     whole g = simp (lt-ltb _ _ h, le-leb _ _ g)
 
   -- the numbers of entry i are read
-  pub record Numbers (start len : ℕ) : Type 0 where
-    pub slot : i < slotsOf es
-    pub starts : start ≡ entryStart es i
-    pub lengths : len ≡ entryLength es i
-
-  module _ (start len : ℕ) (t : Numbers start len) where
+  module _ (start len : ℕ) (slot : i < slotsOf es) (starts : start ≡ entryStart es i) (lengths : len ≡ entryLength es i) where
     pub bad : length bytes < start + len → (r : Refusal) → r ≡ plain badEntry i → refusedBy r ≡ placeOf bytes es i
-    bad l r q = rw q (sym (ap placeIn (outside (t .slot) (omega (arith, t .starts, t .lengths)))))
+    bad l r q = rw q (sym (ap placeIn (outside slot (omega arith))))
 
     pub good : start + len ≤ length bytes → ok (start, len) ≡ placeOf bytes es i
-    good l = rw (t .starts, t .lengths) (sym (ap placeIn (whole (t .slot) (omega (arith, t .starts, t .lengths)))))
+    good l = rw (starts, lengths) (sym (ap placeIn (whole slot (omega arith))))
 
   -- a place that is answered lies inside, and the view is the part there
   pub record Inside (start len : ℕ) : Type 0 where

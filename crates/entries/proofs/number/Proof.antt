@@ -13,7 +13,7 @@ number-spec =
     (λ c. search needs)
     (λ c. search in-words)
     (λ c. search needs)
-    (λ c. let a = c .before .before .before .args in omega (arith, how-many (a .words .now) (a .bytes .now)))
+    (λ c. let at-start : tie.Start = search in let a = at-start .args in omega (arith, how-many (a .words .now) (a .bytes .now)))
     (λ c κs. search needs)
     (λ c. search needs)
     (λ c. search needs)

@@ -11,4 +11,6 @@ answer-spec =
     (λ c κs. search needs)
     (λ c κs. search needs)
     (λ c κs. search needs)
-    (λ c. replied (c .before .before .before .before .args .sofar) _ _ _ _ (c .before .versions .ensures) (c .before .before .before .version-in .ensures) (c .before .before .number-in .ensures)))
+    (λ c.
+    let (at-start, at-version-in, at-number-in) : tie.Start × tie.After-version-in × tie.After-number-in = search in
+    replied (at-start .args .sofar) _ _ _ _ (c .before .versions .ensures) (at-version-in .version-in .ensures) (at-number-in .number-in .ensures)))

@@ -3,18 +3,17 @@ use borrow.Author.Needs.{needs}
 use Rattle.handshake.proofs.judge_daemon_handshake.Statement.{statement}
 use Rattle.handshake.proofs.judge_daemon_handshake.Tie as tie
 use denote.Ref.{now}
-use mathlib.Core.Path.{_≡_}
 use mathlib.Core.List.{[]}
-use Prim.Native.Nat.{_+_, _*_}
-use Rattle.layouts.specs.Primitive.{version}
 use Rattle.table.specs.Table.{versionIn}
 use Rattle.handshake.proofs.Ways.{given-in}
 use Rattle.handshake.proofs.Whole.{daemon-left, given-version, daemon-told}
 
-given : (c : tie.After-round) → versionIn (256 * c .before .before .before .before .before .args .major + c .before .before .before .before .before .args .minor) ≡ version (c .before .before .before .before .before .args .major) (c .before .before .before .before .before .args .minor)
-given c = given-in (c .before .before .before .before .before .args .major) (c .before .before .before .before .before .args .minor) (search needs)
+-- `search` enters 128 records at most: far places are found from a nearer one
+from-smaller : tie.After-smaller → tie.Start × tie.After-layout × tie.After-layout2 × tie.After-start × tie.After-round × tie.After-version-in
+from-smaller c = search
 
 pub judge-daemon-handshake-spec : {M : Type 1} → statement M
+unfolding from-smaller
 judge-daemon-handshake-spec =
     tie.close
     (tie.spec
@@ -34,4 +33,12 @@ judge-daemon-handshake-spec =
     (λ c κs. search needs)
     (λ c κs. search needs)
     (λ c κs. search needs)
-    (λ c. daemon-told (now (c .before .before .before .before .before .before .before .before .before .before .before .before .before .args .daemon)) (c .before .before .before .before .before .before .before .before .before .before .before .before .before .args .slots) _ _ _ (daemon-left [] _ _ (versionIn _) _ (c .before .before .before .before .before .before .before .before .before .start .ensures) _ _ _ _ _ _ _ _ _ _ (c .before .before .before .before .before .before .before .before .before .before .before .layout .ensures) (c .before .before .before .before .before .before .before .before .before .before .layout2 .ensures) (c .before .before .before .before .before .before .before .before .round .ensures) (given-version _ _ _ _ _ (c .before .before .before .before .before .before .smaller .ensures .0) (given (c .before .before .before .before .before .before .before .before)) (c .before .before .before .before .before .before .before .version-in .ensures)) (c .before .before .before .before .before .require-number .ensures) (c .before .before .before .before .layout3 .ensures) (c .before .before .before .round2 .ensures) (c .before .before .layout4 .ensures) (c .before .round3 .ensures)) _ (c .before .before .before .before .before .before .before .before .before .before .before .layout .ensures) _ (given (c .before .before .before .before .before .before .before .before)) (c .finish .result) (c .finish .ensures)))
+    (λ c.
+    let (at-smaller, at-require-number, at-layout3, at-round2, at-layout4) :
+    tie.After-smaller × tie.After-require-number × tie.After-layout3 × tie.After-round2 × tie.After-layout4 = search in
+    let (at-entry, at-layout, at-layout2, at-start, at-round, at-version-in) = from-smaller at-smaller in
+    let given = given-in (at-entry .args .major) (at-entry .args .minor) (search needs) in
+    daemon-told (now (at-entry .args .daemon)) (at-entry .args .slots) _ _ _
+    (daemon-left [] _ _ (versionIn _) _ (at-start .start .ensures) _ _ _ _ _ _ _ _ _ _ (at-layout .layout .ensures) (at-layout2 .layout2 .ensures) (at-round .round .ensures)
+    (given-version _ _ _ _ _ (at-smaller .smaller .ensures .0) given (at-version-in .version-in .ensures)) (at-require-number .require-number .ensures) (at-layout3 .layout3 .ensures)
+    (at-round2 .round2 .ensures) (at-layout4 .layout4 .ensures) (c .before .round3 .ensures)) _ (at-layout .layout .ensures) _ given (c .finish .result) (c .finish .ensures)))

@@ -14,4 +14,4 @@ parse-handshake-spec =
     (λ c. search needs)
     (λ c κs. search needs)
     (λ c. search needs)
-    (λ c. handshake-words _ _ _ (now (c .before .before .before .before .before .before .before .before .before .args .entries)) _ [] _ (c .before .before .before .read .ensures) refl))
+    (λ c. let (at-start, at-read) : tie.Start × tie.After-read = search in handshake-words _ _ _ (now (at-start .args .entries)) _ [] _ (at-read .read .ensures) refl))

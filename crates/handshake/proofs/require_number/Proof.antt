@@ -14,6 +14,8 @@ require-number-spec =
     (λ c. search needs)
     (λ c. remains false false _ _ _ (c .enum-told2 .given .1))
     (λ c κs. search needs)
-    (λ c. number-holds _ _ _ _ _ (c .before .before .enum-told .given .1) (c .before .number-in .ensures) (eq-eqb _ _ (c .if1 .taken)))
+    (λ c. let at-enum-told : tie.After-enum-told = search in number-holds _ _ _ _ _ (at-enum-told .enum-told .given .1) (c .before .number-in .ensures) (eq-eqb _ _ (c .if1 .taken)))
     (λ c κs. search needs)
-    (λ c. number-fails _ _ _ _ _ (c .before .before .before .enum-told .given .1) (c .before .before .number-in .ensures) (ne-eqb _ _ (c .before .if1 .left)) _ (c .refused-answer .ensures)))
+    (λ c.
+    let (at-enum-told, at-number-in) : tie.After-enum-told × tie.After-number-in = search in
+    number-fails _ _ _ _ _ (at-enum-told .enum-told .given .1) (at-number-in .number-in .ensures) (ne-eqb _ _ (c .before .if1 .left)) _ (c .refused-answer .ensures)))

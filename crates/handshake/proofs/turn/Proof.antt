@@ -2,7 +2,6 @@
 use borrow.Author.Needs.{needs}
 use Rattle.handshake.proofs.turn.Statement.{statement}
 use Rattle.handshake.proofs.turn.Tie as tie
-use denote.Ref.{now}
 use mathlib.Core.Bool.{not}
 use Rattle.handshake.proofs.Ways.{remains, turn-refused, turn-fine}
 
@@ -12,11 +11,16 @@ turn-spec =
     (tie.spec
     (λ c. search needs)
     (λ c. search needs)
-    (λ c. remains _ (not (c .before .before .before .args .of-daemon)) _ _ _ (c .enum-told2 .given .1))
+    (λ c. let at-start : tie.Start = search in remains _ (not (at-start .args .of-daemon)) _ _ _ (c .enum-told2 .given .1))
     (λ c κs. search needs)
     (λ c. search needs)
     (λ c κs. search needs)
     (λ c κs. search needs)
-    (λ c. turn-refused _ _ _ _ _ _ (c .before .before .before .before .before .before .enum-told .given .1) (c .before .before .before .before .before .judge-record .ensures) _ (c .before .before .before .judged .given .1) _ (c .before .bit .ensures) _ (c .refused-answer .ensures))
+    (λ c.
+    let (at-enum-told, at-judge-record, at-judged) : tie.After-enum-told × tie.After-judge-record × tie.After-judged = search in
+    turn-refused _ _ _ _ _ _ (at-enum-told .enum-told .given .1) (at-judge-record .judge-record .ensures) _ (at-judged .judged .given .1) _ (c .before .bit .ensures) _
+    (c .refused-answer .ensures))
     (λ c. search needs)
-    (λ c. turn-fine _ _ _ _ _ _ (c .before .before .before .enum-told .given .1) (c .before .before .judge-record .ensures) (c .enum-told3 .given .1)))
+    (λ c.
+    let (at-enum-told, at-judge-record) : tie.After-enum-told × tie.After-judge-record = search in
+    turn-fine _ _ _ _ _ _ (at-enum-told .enum-told .given .1) (at-judge-record .judge-record .ensures) (c .enum-told3 .given .1)))

@@ -11,4 +11,4 @@ versions-spec =
     (λ c κs. search needs)
     (λ c κs. search needs)
     (λ c κs. search needs)
-    (λ c. all-versions _ _ _ _ _ _ (c .before .before .smaller .ensures .0) (c .before .bit .ensures) (c .bit2 .ensures)))
+    (λ c. let at-smaller : tie.After-smaller = search in all-versions _ _ _ _ _ _ (at-smaller .smaller .ensures .0) (c .before .bit .ensures) (c .bit2 .ensures)))

@@ -14,4 +14,7 @@ lintelow-parse-daemon-handshake-spec =
     (λ c κs. search needs)
     (λ c. search needs)
     (λ c. search needs)
-    (λ c. called-long answerAs _ _ _ _ (c .before .before .before .before .before .before .before .before .if1 .left) _ (c .before .before .before .before .before .before .parse-daemon-handshake-bytes .ensures .0) _ _ (c .before .before .put .ensures) _ (c .before .before .before .before .before .before .parse-daemon-handshake-bytes .ensures .1)))
+    (λ c.
+    let (at-else1, at-parse-daemon-handshake-bytes, at-put) : tie.Else1 × tie.After-parse-daemon-handshake-bytes × tie.After-put = search in
+    called-long answerAs _ _ _ _ (at-else1 .if1 .left) _ (at-parse-daemon-handshake-bytes .parse-daemon-handshake-bytes .ensures .0) _ _ (at-put .put .ensures) _
+    (at-parse-daemon-handshake-bytes .parse-daemon-handshake-bytes .ensures .1)))

@@ -11,4 +11,8 @@ lintelow-read-stderr-loop-spec =
     (λ c κs. search needs)
     (λ c κs. search needs)
     (λ c. search needs)
-    (λ c. (told-number _ _ _ _ (c .before .before .before .before .read-stderr-loop .ensures) (c .before .before .put .ensures .0), told-block _ _ _ _ (c .before .before .before .before .read-stderr-loop .ensures) (c .before .before .put .ensures .1))))
+    (λ c.
+    let (at-read-stderr-loop, at-put) : tie.After-read-stderr-loop × tie.After-put = search in (
+      told-number _ _ _ _ (at-read-stderr-loop .read-stderr-loop .ensures) (at-put .put .ensures .0),
+      told-block _ _ _ _ (at-read-stderr-loop .read-stderr-loop .ensures) (at-put .put .ensures .1),
+    )))

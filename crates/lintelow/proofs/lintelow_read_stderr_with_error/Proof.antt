@@ -14,4 +14,7 @@ lintelow-read-stderr-with-error-spec =
     (λ c κs. search needs)
     (λ c. search needs)
     (λ c. search needs)
-    (λ c. called-long answerAs _ _ _ _ (c .before .before .before .before .before .before .before .before .if1 .left) _ (c .before .before .before .before .before .before .read-stderr-with-error-bytes .ensures .0) _ _ (c .before .before .put .ensures) _ (c .before .before .before .before .before .before .read-stderr-with-error-bytes .ensures .1)))
+    (λ c.
+    let (at-else1, at-read-stderr-with-error-bytes, at-put) : tie.Else1 × tie.After-read-stderr-with-error-bytes × tie.After-put = search in
+    called-long answerAs _ _ _ _ (at-else1 .if1 .left) _ (at-read-stderr-with-error-bytes .read-stderr-with-error-bytes .ensures .0) _ _ (at-put .put .ensures) _
+    (at-read-stderr-with-error-bytes .read-stderr-with-error-bytes .ensures .1)))

@@ -11,4 +11,8 @@ lintelow-skip-daemon-result-spec =
     (λ c κs. search needs)
     (λ c κs. search needs)
     (λ c. search needs)
-    (λ c. (told-number _ _ _ _ (c .before .before .before .before .skip-daemon-result .ensures) (c .before .before .put .ensures .0), told-block _ _ _ _ (c .before .before .before .before .skip-daemon-result .ensures) (c .before .before .put .ensures .1))))
+    (λ c.
+    let (at-skip-daemon-result, at-put) : tie.After-skip-daemon-result × tie.After-put = search in (
+      told-number _ _ _ _ (at-skip-daemon-result .skip-daemon-result .ensures) (at-put .put .ensures .0),
+      told-block _ _ _ _ (at-skip-daemon-result .skip-daemon-result .ensures) (at-put .put .ensures .1),
+    )))

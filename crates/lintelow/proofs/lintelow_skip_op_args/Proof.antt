@@ -11,4 +11,6 @@ lintelow-skip-op-args-spec =
     (λ c κs. search needs)
     (λ c κs. search needs)
     (λ c. search needs)
-    (λ c. (told-number _ _ _ _ (c .before .before .before .before .skip-op-args .ensures) (c .before .before .put .ensures .0), told-block _ _ _ _ (c .before .before .before .before .skip-op-args .ensures) (c .before .before .put .ensures .1))))
+    (λ c.
+    let (at-skip-op-args, at-put) : tie.After-skip-op-args × tie.After-put = search in
+    (told-number _ _ _ _ (at-skip-op-args .skip-op-args .ensures) (at-put .put .ensures .0), told-block _ _ _ _ (at-skip-op-args .skip-op-args .ensures) (at-put .put .ensures .1))))

@@ -12,7 +12,7 @@ returns : tie.Need-returns
 returns c = ap (λ (x : Read). answerAs (ended (countRead x))) (sym (c .before .r .given .1))
 
 returns-2 : tie.Need-returns-2
-returns-2 c = c .refused-answer .ensures ∙ ap (λ (x : Read). answerAs (ended (countRead x))) (sym (c .before .before .r2 .given .1))
+returns-2 c = let at-r2 : tie.After-r2 = search in c .refused-answer .ensures ∙ ap (λ (x : Read). answerAs (ended (countRead x))) (sym (at-r2 .r2 .given .1))
 
 pub count-spec : {M : Type 1} → statement M
 count-spec =

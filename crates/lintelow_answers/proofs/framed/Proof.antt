@@ -14,7 +14,7 @@ returns-2 : tie.Need-returns-2
 returns-2 c = c .yes-no2 .ensures ∙ ap (λ (x : Framed). answerAs (yesNo (framedSaid x))) (sym (c .before .enum-told2 .given .1))
 
 returns-3 : tie.Need-returns-3
-returns-3 c = c .refused-answer .ensures ∙ ap (λ (x : Framed). answerAs (yesNo (framedSaid x))) (sym (c .before .before .f .given .1))
+returns-3 c = let at-f : tie.After-f = search in c .refused-answer .ensures ∙ ap (λ (x : Framed). answerAs (yesNo (framedSaid x))) (sym (at-f .f .given .1))
 
 pub framed-spec : {M : Type 1} → statement M
 framed-spec =

@@ -9,10 +9,10 @@ use Rattle.wire.specs.Answers.{peeked}
 use Rattle.lintelow_answers.specs.Answers.{peekedAt}
 
 returns : tie.Need-returns
-returns c = c .fine .ensures ∙ ap (λ (x : Peeked). answerAs (peekedAt (c .before .before .before .before .args .at) (peeked x))) (sym (c .before .before .r .given .1))
+returns c = let (at-start, at-r) : tie.Start × tie.After-r = search in c .fine .ensures ∙ ap (λ (x : Peeked). answerAs (peekedAt (at-start .args .at) (peeked x))) (sym (at-r .r .given .1))
 
 returns-2 : tie.Need-returns-2
-returns-2 c = c .fine2 .ensures ∙ ap (λ (x : Peeked). answerAs (peekedAt (c .before .before .before .args .at) (peeked x))) (sym (c .before .enum-told .given .1))
+returns-2 c = let at-start : tie.Start = search in c .fine2 .ensures ∙ ap (λ (x : Peeked). answerAs (peekedAt (at-start .args .at) (peeked x))) (sym (c .before .enum-told .given .1))
 
 pub peek-spec : {M : Type 1} → statement M
 peek-spec =

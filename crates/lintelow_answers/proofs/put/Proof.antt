@@ -14,4 +14,6 @@ put-spec =
     (λ c. search needs)
     (λ c κs. search needs)
     (λ c. search needs)
-    (λ c. put-as _ (answer-block (c .before .before .before .before .before .before .before .before .before .args .a) _ (c .before .before .before .before .before .before .refusal .ensures)) _ _ (c .before .before .put-parts .ensures)))
+    (λ c.
+    let (at-start, at-refusal, at-put-parts) : tie.Start × tie.After-refusal × tie.After-put-parts = search in
+    put-as _ (answer-block (at-start .args .a) _ (at-refusal .refusal .ensures)) _ _ (at-put-parts .put-parts .ensures)))

@@ -14,4 +14,6 @@ put-parts-spec =
     (λ c κs. search needs)
     (λ c. search needs)
     (λ c. search needs)
-    (λ c. put-long _ _ (c .before .before .before .before .before .before .if1 .left) _ _ (c .before .before .before .before .before .numbers .ensures) (c .before .before .put-numbers .ensures)))
+    (λ c.
+    let (at-else1, at-numbers, at-put-numbers) : tie.Else1 × tie.After-numbers × tie.After-put-numbers = search in
+    put-long _ _ (at-else1 .if1 .left) _ _ (at-numbers .numbers .ensures) (at-put-numbers .put-numbers .ensures)))

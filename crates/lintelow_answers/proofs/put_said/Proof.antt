@@ -11,4 +11,6 @@ put-said-spec =
     (λ c κs. search needs)
     (λ c κs. search needs)
     (λ c. search needs)
-    (λ c. put-as _ (said-block (c .before .before .before .before .before .before .args .said) _ _ _ (c .before .before .before .head .ensures)) _ _ (c .before .before .put-parts .ensures)))
+    (λ c.
+    let (at-start, at-head, at-put-parts) : tie.Start × tie.After-head × tie.After-put-parts = search in
+    put-as _ (said-block (at-start .args .said) _ _ _ (at-head .head .ensures)) _ _ (at-put-parts .put-parts .ensures)))

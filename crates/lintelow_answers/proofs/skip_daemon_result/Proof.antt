@@ -16,5 +16,8 @@ skip-daemon-result-spec =
     (λ c κs. search needs)
     (λ c. search needs)
     (λ c κs. search needs)
-    (λ c. result-is _ _ _ (c .before .before .before .before .skip-daemon-result .ensures) (c .before .before .k .given .1) _ (ap (λ (x : Record). record { outcome = Fine; kind = 0; ends = c .before .before .k .given .0 .0; ends2 = 0; found = x }) (c .empty .ensures)))
+    (λ c.
+    let (at-skip-daemon-result, at-k) : tie.After-skip-daemon-result × tie.After-k = search in
+    result-is _ _ _ (at-skip-daemon-result .skip-daemon-result .ensures) (at-k .k .given .1) _
+    (ap (λ (x : Record). record { outcome = Fine; kind = 0; ends = at-k .k .given .0 .0; ends2 = 0; found = x }) (c .empty .ensures)))
     (λ c. search result-is))

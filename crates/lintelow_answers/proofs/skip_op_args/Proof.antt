@@ -15,4 +15,8 @@ skip-op-args-spec =
     (tie.spec
     (λ c κs. search needs)
     (λ c κs. search needs)
-    (λ c. let v = version (c .before .before .before .args .major) (c .before .before .before .args .minor) in string-is (skipOpArgs (c .before .before .before .args .op) v (now (c .before .before .before .args .s))) (entriesOf (run (skippedTree (c .before .before .before .args .op) v) (now (c .before .before .before .args .s)) 0)) _ _ (c .before .skip-op-args .ensures) (c .entries-of .ensures)))
+    (λ c.
+    let at-start : tie.Start = search in
+    let v = version (at-start .args .major) (at-start .args .minor) in
+    string-is (skipOpArgs (at-start .args .op) v (now (at-start .args .s))) (entriesOf (run (skippedTree (at-start .args .op) v) (now (at-start .args .s)) 0)) _ _
+    (c .before .skip-op-args .ensures) (c .entries-of .ensures)))

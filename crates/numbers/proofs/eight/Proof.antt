@@ -10,13 +10,15 @@ use Rattle.numbers.proofs.Word.{join}
 returns : tie.Need-returns
 unfolding littleAt
 returns c =
-    let r0 = c .before .before .before .before .before .before .before .before .before .before .before .before .before .before .wide .result in
-    let r1 = c .before .before .before .before .before .before .before .before .before .before .before .before .wide2 .result in
-    let r2 = c .before .before .before .before .before .before .before .before .before .before .wide3 .result in
-    let r3 = c .before .before .before .before .before .before .before .before .wide4 .result in
-    let r4 = c .before .before .before .before .before .before .wide5 .result in
-    let r5 = c .before .before .before .before .wide6 .result in
-    let r6 = c .before .before .wide7 .result in
+    let (at-wide, at-wide2, at-wide3, at-wide4, at-wide5, at-wide6, at-wide7) :
+    tie.After-wide × tie.After-wide2 × tie.After-wide3 × tie.After-wide4 × tie.After-wide5 × tie.After-wide6 × tie.After-wide7 = search in
+    let r0 = at-wide .wide .result in
+    let r1 = at-wide2 .wide2 .result in
+    let r2 = at-wide3 .wide3 .result in
+    let r3 = at-wide4 .wide4 .result in
+    let r4 = at-wide5 .wide5 .result in
+    let r5 = at-wide6 .wide6 .result in
+    let r6 = at-wide7 .wide7 .result in
     let r7 = c .wide8 .result in
     let s1 : ℕ = r0 + r1 * 256 in
     let s2 : ℕ = s1 + r2 * 65536 in

@@ -12,6 +12,6 @@ unfolding numberAt
 read-spec =
     tie.close
     (tie.spec
-    (λ c. read-none 8 (now (c .before .before .args .s)) (omega arith))
+    (λ c. let at-start : tie.Start = search in read-none 8 (now (at-start .args .s)) (omega arith))
     (λ c κs. search needs)
-    (λ c. read-there 8 (now (c .before .before .before .args .s)) _ (omega arith) (c .eight .ensures)))
+    (λ c. let at-start : tie.Start = search in read-there 8 (now (at-start .args .s)) _ (omega arith) (c .eight .ensures)))

@@ -10,6 +10,6 @@ pub read-four-spec : {M : Type 1} → statement M
 read-four-spec =
     tie.close
     (tie.spec
-    (λ c. read-none 4 (now (c .before .before .args .s)) (omega arith))
+    (λ c. let at-start : tie.Start = search in read-none 4 (now (at-start .args .s)) (omega arith))
     (λ c κs. search needs)
-    (λ c. read-there 4 (now (c .before .before .before .args .s)) _ (omega arith) (c .four .ensures .0)))
+    (λ c. let at-start : tie.Start = search in read-there 4 (now (at-start .args .s)) _ (omega arith) (c .four .ensures .0)))

@@ -8,9 +8,6 @@ use lib.ListN.{length}
 use denote.Ref.{now}
 use Rattle.pieces.proofs.Found.{there, no-chunk, last-chunk, long-chunk, cut-chunk, whole-chunk}
 
-fits : (c : tie.After-known-told) → c .before .before .before .before .before .args .at + 8 ≤ length (now (c .before .before .before .before .before .args .s))
-fits c = there (now (c .before .before .before .before .before .args .s)) _ _ _ (c .before .before .before .number-at .ensures) (c .before .n .given .1)
-
 pub chunk-at-spec : {M : Type 1} → statement M
 chunk-at-spec =
     tie.close
@@ -19,13 +16,16 @@ chunk-at-spec =
     (λ c. search needs)
     (λ c κs. search needs)
     (λ c. search needs)
-    (λ c. omega (arith, fits (c)))
+    (λ c. let at-start : tie.Start = search in let fits : at-start .args .at + 8 ≤ length (now (at-start .args .s)) = search there in omega arith)
     (λ c. search last-chunk)
     (λ c κs. search needs)
     (λ c. search long-chunk)
-    (λ c. omega (arith, fits (c .before .before)))
+    (λ c. let at-start : tie.Start = search in let fits : at-start .args .at + 8 ≤ length (now (at-start .args .s)) = search there in omega arith)
     (λ c κs. search needs)
     (λ c. search cut-chunk)
     (λ c. search needs)
     (λ c. search no-chunk)
-    (λ c. whole-chunk (now (c .before .before .before .before .before .before .before .before .args .s)) (c .before .before .before .before .before .before .before .before .args .at) _ _ (c .before .before .before .before .before .before .number-at .ensures) (c .before .before .before .before .n .given .1) _ (omega arith) (c .before .before .if1 .left) (c .before .if2 .left) (c .if3 .left)))
+    (λ c.
+    let (at-start, at-number-at, at-n, at-else1) : tie.Start × tie.After-number-at × tie.After-n × tie.Else1 = search in
+    whole-chunk (now (at-start .args .s)) (at-start .args .at) _ _ (at-number-at .number-at .ensures) (at-n .n .given .1) _ (omega arith) (at-else1 .if1 .left) (c .before .if2 .left)
+    (c .if3 .left)))

@@ -15,5 +15,5 @@ four-at-spec =
     (λ c. search needs)
     (λ c. search needs)
     (λ c κs. search needs)
-    (λ c. ap numRead (c .read-four .ensures) ∙ four-part (now (c .before .before .before .before .args .s)) (c .before .before .before .before .args .at) (c .before .before .if1 .taken))
-    (λ c. four-past (now (c .before .before .args .s)) (c .before .before .args .at) (c .if1 .left)))
+    (λ c. let (at-start, at-then1) : tie.Start × tie.Then1 = search in ap numRead (c .read-four .ensures) ∙ four-part (now (at-start .args .s)) (at-start .args .at) (at-then1 .if1 .taken))
+    (λ c. let at-start : tie.Start = search in four-past (now (at-start .args .s)) (at-start .args .at) (c .if1 .left)))

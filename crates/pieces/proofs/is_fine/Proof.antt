@@ -14,5 +14,7 @@ is-fine-spec =
     (λ c. search needs)
     (λ c. search needs)
     (λ c κs. search needs)
-    (λ c. fine-kept (now (c .before .before .before .before .args .s)) (c .before .before .before .before .args .start) (c .before .before .before .before .args .len) _ _ (c .before .before .if1 .taken) (c .is-text .ensures))
-    (λ c. fine-passed (now (c .before .before .args .s)) (c .before .before .args .start) (c .before .before .args .len) _ (c .if1 .left)))
+    (λ c.
+    let (at-start, at-then1) : tie.Start × tie.Then1 = search in
+    fine-kept (now (at-start .args .s)) (at-start .args .start) (at-start .args .len) _ _ (at-then1 .if1 .taken) (c .is-text .ensures))
+    (λ c. let at-start : tie.Start = search in fine-passed (now (at-start .args .s)) (at-start .args .start) (at-start .args .len) _ (c .if1 .left)))

@@ -18,4 +18,4 @@ number-at-spec =
     (λ c. search needs)
     (λ c. search needs)
     (λ c κs. search needs)
-    (λ c. ap numRead (c .read .ensures) ∙ number-part (now (c .before .before .before .before .args .s)) (c .before .before .before .before .args .at) (c .before .before .if1 .left)))
+    (λ c. let (at-start, at-else1) : tie.Start × tie.Else1 = search in ap numRead (c .read .ensures) ∙ number-part (now (at-start .args .s)) (at-start .args .at) (at-else1 .if1 .left)))

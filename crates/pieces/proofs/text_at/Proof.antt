@@ -8,9 +8,6 @@ use lib.ListN.{length}
 use denote.Ref.{now}
 use Rattle.pieces.proofs.Found.{there, no-string, long-string, cut-contents, cut-padding, whole-string}
 
-fits : (c : tie.After-known-told) → c .before .before .before .before .before .args .at + 8 ≤ length (now (c .before .before .before .before .before .args .s))
-fits c = there (now (c .before .before .before .before .before .args .s)) _ _ _ (c .before .before .before .number-at .ensures) (c .before .n .given .1)
-
 pub text-at-spec : {M : Type 1} → statement M
 text-at-spec =
     tie.close
@@ -21,13 +18,13 @@ text-at-spec =
     (λ c. search needs)
     (λ c κs. search needs)
     (λ c. search long-string)
-    (λ c. omega (arith, fits (c .before)))
-    (λ c. omega (arith, fits (c .before)))
+    (λ c. let at-start : tie.Start = search in let fits : at-start .args .at + 8 ≤ length (now (at-start .args .s)) = search there in omega arith)
+    (λ c. let at-start : tie.Start = search in let fits : at-start .args .at + 8 ≤ length (now (at-start .args .s)) = search there in omega arith)
     (λ c κs. search needs)
     (λ c. search cut-contents)
     (λ c κs. search needs)
     (λ c. let g = rw (c .before .padding .ensures .0) at (c .if3 .taken) in search cut-padding)
-    (λ c. omega (arith, fits (c .before .before .before .before)))
-    (λ c. omega (arith, fits (c .before .before .before .before)))
+    (λ c. let at-start : tie.Start = search in let fits : at-start .args .at + 8 ≤ length (now (at-start .args .s)) = search there in omega arith)
+    (λ c. let at-start : tie.Start = search in let fits : at-start .args .at + 8 ≤ length (now (at-start .args .s)) = search there in omega arith)
     (λ c. search no-string)
     (λ c. search whole-string))

@@ -5,7 +5,6 @@ use Rattle.protocol.proofs.read_daemon_result.Tie as tie
 use denote.Ref.{now}
 use mathlib.Core.Path.{refl, _∙_}
 use mathlib.Core.List.{[]}
-use Rattle.layouts.specs.Primitive.{version}
 use Rattle.protocol.proofs.Read.{reply-words}
 
 pub read-daemon-result-spec : {M : Type 1} → statement M
@@ -17,4 +16,7 @@ read-daemon-result-spec =
     (λ c κs. search needs)
     (λ c. search needs)
     (λ c. search needs)
-    (λ c. reply-words _ _ _ (now (c .before .before .before .before .before .before .before .before .before .before .before .before .before .before .before .args .entries)) [] (now (c .before .before .before .before .before .before .before .before .before .before .before .before .before .before .before .args .payload)) _ _ _ _ (c .answer-of .ensures ∙ c .before .before .before .before .before .before .read-reply .ensures .0, c .before .before .before .before .before .before .read-reply .ensures .1) refl))
+    (λ c.
+    let (at-start, at-read-reply) : tie.Start × tie.After-read-reply = search in
+    reply-words _ _ _ (now (at-start .args .entries)) [] (now (at-start .args .payload)) _ _ _ _
+    (c .answer-of .ensures ∙ at-read-reply .read-reply .ensures .0, at-read-reply .read-reply .ensures .1) refl))

@@ -5,7 +5,6 @@ use Rattle.protocol.proofs.read_op_args.Tie as tie
 use denote.Ref.{now}
 use mathlib.Core.Path.{refl, _∙_}
 use mathlib.Core.List.{[]}
-use Rattle.layouts.specs.Primitive.{version}
 use Rattle.protocol.proofs.Read.{arguments-words}
 
 pub read-op-args-spec : {M : Type 1} → statement M
@@ -17,4 +16,7 @@ read-op-args-spec =
     (λ c κs. search needs)
     (λ c. search needs)
     (λ c. search needs)
-    (λ c. arguments-words _ _ _ (now (c .before .before .before .before .before .before .before .before .before .before .before .before .before .before .before .args .entries)) [] (now (c .before .before .before .before .before .before .before .before .before .before .before .before .before .before .before .args .payload)) _ _ _ _ (c .answer-of .ensures ∙ c .before .before .before .before .before .before .read-arguments .ensures .0, c .before .before .before .before .before .before .read-arguments .ensures .1) refl))
+    (λ c.
+    let (at-start, at-read-arguments) : tie.Start × tie.After-read-arguments = search in
+    arguments-words _ _ _ (now (at-start .args .entries)) [] (now (at-start .args .payload)) _ _ _ _
+    (c .answer-of .ensures ∙ at-read-arguments .read-arguments .ensures .0, at-read-arguments .read-arguments .ensures .1) refl))

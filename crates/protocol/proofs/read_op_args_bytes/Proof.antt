@@ -5,7 +5,6 @@ use Rattle.protocol.proofs.read_op_args_bytes.Tie as tie
 use denote.Ref.{now}
 use mathlib.Core.Path.{refl}
 use mathlib.Core.List.{[]}
-use Rattle.layouts.specs.Primitive.{version}
 use Rattle.protocol.proofs.Read.{arguments-bytes}
 
 pub read-op-args-bytes-spec : {M : Type 1} → statement M
@@ -16,4 +15,6 @@ read-op-args-bytes-spec =
     (λ c κs. search needs)
     (λ c. search needs)
     (λ c. search needs)
-    (λ c. arguments-bytes _ _ _ [] (now (c .before .before .before .before .before .before .before .before .before .before .before .before .before .before .args .entries)) (now (c .before .before .before .before .before .before .before .before .before .before .before .before .before .before .args .payload)) _ _ _ _ (c .before .before .before .before .before .read-arguments .ensures) refl))
+    (λ c.
+    let (at-start, at-read-arguments) : tie.Start × tie.After-read-arguments = search in
+    arguments-bytes _ _ _ [] (now (at-start .args .entries)) (now (at-start .args .payload)) _ _ _ _ (at-read-arguments .read-arguments .ensures) refl))

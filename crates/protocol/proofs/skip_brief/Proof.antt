@@ -2,7 +2,6 @@
 use borrow.Author.Needs.{needs}
 use Rattle.protocol.proofs.skip_brief.Statement.{statement}
 use Rattle.protocol.proofs.skip_brief.Tie as tie
-use denote.Ref.{now}
 use Rattle.walk_read.proofs.Filled.{brief-is}
 use Rattle.protocol.proofs.Rows.{brief-nothing, brief-short, brief-number}
 
@@ -19,7 +18,12 @@ skip-brief-spec =
     (λ c. search needs)
     (λ c. search needs)
     (λ c κs. search needs)
-    (λ c. brief-nothing _ _ (brief-is _ _ _ (c .before .before .in-brief .ensures .1) (c .enum-told .given .1)))
-    (λ c. brief-short _ _ (brief-is _ _ _ (c .before .before .before .before .before .before .in-brief .ensures .1) (c .before .before .before .before .enum-told2 .given .1)) _ (c .before .before .before .number-at .ensures) _ (c .refuse .ensures) (c .before .enum-told3 .given .1))
-    (λ c. brief-number _ _ (brief-is _ _ _ (c .before .before .before .before .before .in-brief .ensures .1) (c .before .before .before .enum-told2 .given .1)) _ (c .before .before .number-at .ensures) _ (c .enum-told4 .given .1))
+    (λ c. let at-in-brief : tie.After-in-brief = search in brief-nothing _ _ (brief-is _ _ _ (at-in-brief .in-brief .ensures .1) (c .enum-told .given .1)))
+    (λ c.
+    let (at-in-brief, at-enum-told2, at-number-at) : tie.After-in-brief × tie.After-enum-told2 × tie.After-number-at = search in
+    brief-short _ _ (brief-is _ _ _ (at-in-brief .in-brief .ensures .1) (at-enum-told2 .enum-told2 .given .1)) _ (at-number-at .number-at .ensures) _ (c .refuse .ensures)
+    (c .before .enum-told3 .given .1))
+    (λ c.
+    let (at-in-brief, at-enum-told2, at-number-at) : tie.After-in-brief × tie.After-enum-told2 × tie.After-number-at = search in
+    brief-number _ _ (brief-is _ _ _ (at-in-brief .in-brief .ensures .1) (at-enum-told2 .enum-told2 .given .1)) _ (at-number-at .number-at .ensures) _ (c .enum-told4 .given .1))
     (λ c. search needs))

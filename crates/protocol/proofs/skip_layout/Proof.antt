@@ -2,7 +2,6 @@
 use borrow.Author.Needs.{needs}
 use Rattle.protocol.proofs.skip_layout.Statement.{statement}
 use Rattle.protocol.proofs.skip_layout.Tie as tie
-use denote.Ref.{now}
 use Rattle.protocol.proofs.Rows.{skipped-refused, skipped-fine}
 
 pub skip-layout-spec : {M : Type 1} → statement M
@@ -18,5 +17,7 @@ skip-layout-spec =
     (λ c. search needs)
     (λ c. search needs)
     (λ c. search needs)
-    (λ c. skipped-refused _ _ _ _ _ _ (c .before .before .before .before .judge .ensures .0) _ _ (c .before .before .a .given .1) (c .refused-arguments .ensures))
-    (λ c. skipped-fine _ _ _ _ _ _ (c .before .before .before .before .before .judge .ensures .0) _ _ _ _ _ _ (c .before .before .before .a2 .given .1) _ (c .before .before .before .before .before .judge .ensures .1) _ (rw (← c .before .spoken .ensures) (c .kind-of .ensures))))
+    (λ c. let (at-judge, at-a) : tie.After-judge × tie.After-a = search in skipped-refused _ _ _ _ _ _ (at-judge .judge .ensures .0) _ _ (at-a .a .given .1) (c .refused-arguments .ensures))
+    (λ c.
+    let (at-judge, at-a2) : tie.After-judge × tie.After-a2 = search in
+    skipped-fine _ _ _ _ _ _ (at-judge .judge .ensures .0) _ _ _ _ _ _ (at-a2 .a2 .given .1) _ (at-judge .judge .ensures .1) _ (rw (← c .before .spoken .ensures) (c .kind-of .ensures))))

@@ -12,39 +12,46 @@ use Rattle.protocol.proofs.Rows.{unknown-is, arguments-unknown, row-arg
 returns : tie.Need-returns
 unfolding skipOpArgs
 returns c =
-    let a = c .before .before .before .before .before .before .args in
+    let (at-start, at-skipped, at-enum-told) : tie.Start × tie.After-skipped × tie.After-enum-told = search in
+    let a = at-start .args in
     let v = version (a .major) (a .minor) in
     let k = skippedKinds (a .op) in
-    arguments-unknown _ _ _ _ (unknown-is v k 1 0 (now (a .s)) _ (shape-refuses (a .op) _ _ _ (c .before .before .before .before .skipped .ensures) (c .before .before .enum-told .given .1) .skips v)) (c .before .refuse .ensures) (c .refused-arguments .ensures)
+    arguments-unknown _ _ _ _ (unknown-is v k 1 0 (now (a .s)) _ (shape-refuses (a .op) _ _ _ (at-skipped .skipped .ensures) (at-enum-told .enum-told .given .1) .skips v))
+    (c .before .refuse .ensures) (c .refused-arguments .ensures)
 
 returns-2 : tie.Need-returns-2
 unfolding skipOpArgs
 returns-2 c =
-    let a = c .before .before .before .before .before .before .before .before .before .before .before .args in
-    let g = c .before .before .before .before .before .layout in
+    let (at-start, at-skipped, at-f, at-layout, at-in-brief, at-enum-told2) : tie.Start × tie.After-skipped × tie.After-f × tie.After-layout × tie.After-in-brief × tie.After-enum-told2 = search in
+    let a = at-start .args in
+    let g = at-layout .layout in
     let v = version (a .major) (a .minor) in
     let k = skippedKinds (a .op) in
-    let y = skipped-say (a .op) _ _ _ (c .before .before .before .before .before .before .before .before .before .skipped .ensures) (c .before .before .before .before .before .before .before .f .given .1) in
-    row-arguments v k 1 0 (now (a .s)) _ _ _ (g .ensures .0) (g .ensures .1) (y .tree v) _ (y .kind v) _ (skipped-nothing (g .result) _ (now (a .s)) (brief-is (g .result) _ _ (c .before .before .before .before .in-brief .ensures .1) (c .before .before .enum-told2 .given .1)) _ (rw (← c .before .spoken .ensures) (c .kind-of .ensures)))
+    let y = skipped-say (a .op) _ _ _ (at-skipped .skipped .ensures) (at-f .f .given .1) in
+    row-arguments v k 1 0 (now (a .s)) _ _ _ (g .ensures .0) (g .ensures .1) (y .tree v) _ (y .kind v) _
+    (skipped-nothing (g .result) _ (now (a .s)) (brief-is (g .result) _ _ (at-in-brief .in-brief .ensures .1) (at-enum-told2 .enum-told2 .given .1)) _
+    (rw (← c .before .spoken .ensures) (c .kind-of .ensures)))
 
 returns-3 : tie.Need-returns-3
 unfolding skipOpArgs
 returns-3 c =
-    let a = c .before .before .before .before .before .before .before .before .before .before .args in
-    let g = c .before .before .before .before .layout in
+    let (at-start, at-skipped, at-f, at-layout) : tie.Start × tie.After-skipped × tie.After-f × tie.After-layout = search in
+    let a = at-start .args in
+    let g = at-layout .layout in
     let v = version (a .major) (a .minor) in
     let k = skippedKinds (a .op) in
-    let y = skipped-say (a .op) _ _ _ (c .before .before .before .before .before .before .before .before .skipped .ensures) (c .before .before .before .before .before .before .f .given .1) in
+    let y = skipped-say (a .op) _ _ _ (at-skipped .skipped .ensures) (at-f .f .given .1) in
     row-arguments v k 1 0 (now (a .s)) _ _ _ (g .ensures .0) (g .ensures .1) (y .tree v) _ (y .kind v) _ (c .skip-layout .ensures)
 
 returns-4 : tie.Need-returns-4
 unfolding skipOpArgs
 returns-4 c =
-    let a = c .before .before .before .before .before .before .before .before .before .before .args in
-    let g = c .before .before .before .before .layout in
+    let (at-start, at-skipped, at-f, at-layout) : tie.Start × tie.After-skipped × tie.After-f × tie.After-layout = search in
+    let a = at-start .args in
+    let g = at-layout .layout in
     let v = version (a .major) (a .minor) in
     let k = skippedKinds (a .op) in
-    let y = skipped-say (a .op) _ _ _ (c .before .before .before .before .before .before .before .before .skipped .ensures) (c .before .before .before .before .before .before .f .given .1) in
+    let y = skipped-say (a .op) _ _ _ (at-skipped .skipped .ensures) (at-f .f .given .1) in
     row-arguments v k 1 0 (now (a .s)) _ _ _ (g .ensures .0) (g .ensures .1) (y .tree v) _ (y .kind v) _ (c .skip-layout2 .ensures)
 
 pub skip-op-args-spec : {M : Type 1} → statement M

@@ -12,5 +12,7 @@ find-message-spec =
     (λ c. search needs)
     (λ c κs. search needs)
     (λ c. search needs)
-    (λ c. found-message _ _ (c .before .before .before .before .from-u64 .ensures) _ (c .message-of .result) (c .before .before .f .given .1) (c .message-of .ensures))
-    (λ c. none-message _ _ (c .before .before .from-u64 .ensures) (c .enum-told .given .1)))
+    (λ c.
+    let (at-from-u64, at-f) : tie.After-from-u64 × tie.After-f = search in
+    found-message _ _ (at-from-u64 .from-u64 .ensures) _ (c .message-of .result) (at-f .f .given .1) (c .message-of .ensures))
+    (λ c. let at-from-u64 : tie.After-from-u64 = search in none-message _ _ (at-from-u64 .from-u64 .ensures) (c .enum-told .given .1)))

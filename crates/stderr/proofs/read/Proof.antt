@@ -19,7 +19,16 @@ read-spec =
     (λ c κs. search needs)
     (λ c. search needs)
     (λ c. search needs)
-    (λ c. error-block (now (c .before .before .before .before .before .before .before .before .before .before .before .before .before .before .before .before .before .args .s)) (c .before .before .before .before .before .before .before .before .before .before .before .before .before .stderr-loop .result) (c .before .before .before .before .before .before .before .before .before .before .before .before .before .stderr-loop .ensures) _ _ _ (c .before .before .before .before .before .before .before .before .before .before .before .l2 .given .1) _ (c .before .before .before .before .before .before .before .before .before .stopped-record .ensures) _ (c .before .before .before .before .before .before .before .if1 .taken ∙ c .before .before .before .before .before .before .before .before .number .ensures) _ _ _ _ _ (c .before .before .before .before .read-error-block .ensures))
+    (λ c.
+    let (at-start, at-stderr-loop, at-l2, at-stopped-record, at-number, at-then1, at-read-error-block) :
+    tie.Start × tie.After-stderr-loop × tie.After-l2 × tie.After-stopped-record × tie.After-number × tie.Then1 × tie.After-read-error-block = search in
+    error-block (now (at-start .args .s)) (at-stderr-loop .stderr-loop .result) (at-stderr-loop .stderr-loop .ensures) _ _ _ (at-l2 .l2 .given .1) _ (at-stopped-record .stopped-record .ensures) _
+    (at-then1 .if1 .taken ∙ at-number .number .ensures) _ _ _ _ _ (at-read-error-block .read-error-block .ensures))
     (λ c κs. search needs)
-    (λ c. error-refused (now (c .before .before .before .before .before .before .before .before .args .s)) (c .before .before .before .before .stderr-loop .result) (c .before .before .before .before .stderr-loop .ensures) _ (c .before .before .l .given .1) _ _ _ _ (c .refused-answer .ensures))
-    (λ c. no-error (now (c .before .before .before .before .before .before .before .before .before .before .before .args .s)) (c .before .before .before .before .before .before .before .stderr-loop .result) (c .before .before .before .before .before .before .before .stderr-loop .ensures) _ _ _ (c .before .before .before .before .before .l2 .given .1) _ (c .before .before .before .stopped-record .ensures) _ (λ z. c .before .if1 .left (z ∙ sym (c .before .before .number .ensures))) _ _ _ (c .answer .ensures)))
+    (λ c.
+    let (at-start, at-stderr-loop, at-l) : tie.Start × tie.After-stderr-loop × tie.After-l = search in
+    error-refused (now (at-start .args .s)) (at-stderr-loop .stderr-loop .result) (at-stderr-loop .stderr-loop .ensures) _ (at-l .l .given .1) _ _ _ _ (c .refused-answer .ensures))
+    (λ c.
+    let (at-start, at-stderr-loop, at-l2, at-stopped-record, at-number) : tie.Start × tie.After-stderr-loop × tie.After-l2 × tie.After-stopped-record × tie.After-number = search in
+    no-error (now (at-start .args .s)) (at-stderr-loop .stderr-loop .result) (at-stderr-loop .stderr-loop .ensures) _ _ _ (at-l2 .l2 .given .1) _ (at-stopped-record .stopped-record .ensures) _
+    (λ z. c .before .if1 .left (z ∙ sym (at-number .number .ensures))) _ _ _ (c .answer .ensures)))

@@ -2,7 +2,6 @@
 use borrow.Author.Needs.{needs}
 use Rattle.stderr.proofs.read_error_block.Statement.{statement}
 use Rattle.stderr.proofs.read_error_block.Tie as tie
-use denote.Ref.{now}
 use Rattle.stderr.proofs.Block.{block-refused, block-filled}
 
 pub read-error-block-spec : {M : Type 1} → statement M
@@ -16,8 +15,14 @@ read-error-block-spec =
     (λ c. search needs)
     (λ c. search needs)
     (λ c. search needs)
-    (λ c. block-refused _ _ _ _ (c .before .before .before .before .before .before .layout .ensures) _ _ _ (c .before .before .before .slots .ensures) _ (c .before .before .judge-record .ensures) _ (c .enum-told2 .given .1))
+    (λ c.
+    let (at-layout, at-slots, at-judge-record) : tie.After-layout × tie.After-slots × tie.After-judge-record = search in
+    block-refused _ _ _ _ (at-layout .layout .ensures) _ _ _ (at-slots .slots .ensures) _ (at-judge-record .judge-record .ensures) _ (c .enum-told2 .given .1))
     (λ c κs. search needs)
     (λ c. search needs)
     (λ c. search needs)
-    (λ c. block-filled _ _ _ _ (c .before .before .before .before .before .before .before .before .before .before .before .before .before .layout .ensures) _ _ _ (c .before .before .before .before .before .before .before .before .before .before .slots .ensures) _ (c .before .before .before .before .before .before .before .before .before .judge-record .ensures) (c .before .before .before .before .before .before .before .enum-told .given .1) _ _ _ _ (c .before .before .before .before .fill-entries .ensures .0) (c .before .before .before .before .fill-entries .ensures .1)))
+    (λ c.
+    let (at-layout, at-slots, at-judge-record, at-enum-told, at-fill-entries) :
+    tie.After-layout × tie.After-slots × tie.After-judge-record × tie.After-enum-told × tie.After-fill-entries = search in
+    block-filled _ _ _ _ (at-layout .layout .ensures) _ _ _ (at-slots .slots .ensures) _ (at-judge-record .judge-record .ensures) (at-enum-told .enum-told .given .1) _ _ _ _
+    (at-fill-entries .fill-entries .ensures .0) (at-fill-entries .fill-entries .ensures .1)))

@@ -15,5 +15,10 @@ read-stderr-loop-spec =
     (λ c. search needs)
     (λ c κs. search needs)
     (λ c κs. search needs)
-    (λ c. loop-refused (now (c .before .before .before .before .before .before .args .s)) (c .before .before .before .before .stderr-loop .result) (c .before .before .before .before .stderr-loop .ensures) _ (c .before .before .l .given .1) _ (c .refused-answer .ensures))
-    (λ c. loop-stops (now (c .before .before .before .before .before .before .before .args .s)) (c .before .before .before .before .before .stderr-loop .result) (c .before .before .before .before .before .stderr-loop .ensures) _ _ _ (c .before .before .before .l2 .given .1) _ (c .before .stopped-record .ensures) _ (c .answer .ensures)))
+    (λ c.
+    let (at-start, at-stderr-loop, at-l) : tie.Start × tie.After-stderr-loop × tie.After-l = search in
+    loop-refused (now (at-start .args .s)) (at-stderr-loop .stderr-loop .result) (at-stderr-loop .stderr-loop .ensures) _ (at-l .l .given .1) _ (c .refused-answer .ensures))
+    (λ c.
+    let (at-start, at-stderr-loop, at-l2) : tie.Start × tie.After-stderr-loop × tie.After-l2 = search in
+    loop-stops (now (at-start .args .s)) (at-stderr-loop .stderr-loop .result) (at-stderr-loop .stderr-loop .ensures) _ _ _ (at-l2 .l2 .given .1) _ (c .before .stopped-record .ensures) _
+    (c .answer .ensures)))

@@ -14,4 +14,4 @@ read-stderr-with-error-spec =
     (λ c. search needs)
     (λ c κs. search needs)
     (λ c. search needs)
-    (λ c. error-words _ _ (now (c .before .before .before .before .before .before .before .before .args .entries)) _ [] _ (c .before .before .before .read .ensures) refl))
+    (λ c. let (at-start, at-read) : tie.Start × tie.After-read = search in error-words _ _ (now (at-start .args .entries)) _ [] _ (at-read .read .ensures) refl))

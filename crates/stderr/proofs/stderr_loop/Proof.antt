@@ -2,7 +2,6 @@
 use borrow.Author.Needs.{needs}
 use Rattle.stderr.proofs.stderr_loop.Statement.{statement}
 use Rattle.stderr.proofs.stderr_loop.Tie as tie
-use denote.Ref.{now}
 use native.Mathlib.Omega.{arith}
 use Prim.Native.Nat.{_-_}
 use lib.ListN.{length}
@@ -13,6 +12,9 @@ Inv-loop s at₀ messages₀ at messages = Going s at messages
 
 abbrev μ-loop : tie.MeasureT-loop
 μ-loop s at₀ messages₀ at messages = length s - at
+
+abbrev At : (tie.InvT-loop → tie.MeasureT-loop → Type 0) → Type 0
+At place = place Inv-loop μ-loop
 
 pub stderr-loop-spec : {M : Type 1} → statement M
 stderr-loop-spec =
@@ -27,18 +29,35 @@ stderr-loop-spec =
     (λ c. search needs)
     (λ c κs. search needs)
     (λ c. search needs)
-    (λ c. search (no-message, c .before .before .before .before .p .given .1, c .enum-told2 .given .1))
+    (λ c. let at-p : At tie.After-p = search in search (no-message, at-p .p .given .1, c .enum-told2 .given .1))
     (λ c. search needs)
-    (λ c. let t = there _ _ _ (c .before .before .before .before .before .before .before .loop .inv) _ (c .before .before .before .before .before .before .number-at .ensures) _ (c .before .before .before .before .p .given .1) in omega (arith, t, c .before .before .before .before .before .before .before .loop .inv .counted))
-    (λ c. let t = there _ _ _ (c .before .before .before .before .before .before .before .loop .inv) _ (c .before .before .before .before .before .before .number-at .ensures) _ (c .before .before .before .before .p .given .1) in omega (arith, t))
-    (λ c. search (last-message, c .before .before .before .before .p .given .1, c .enum-told3 .given .1))
+    (λ c.
+    let (at-loop, at-number-at, at-p) : At tie.At-loop × At tie.After-number-at × At tie.After-p = search in
+    let t = there _ _ _ (at-loop .loop .inv) _ (at-number-at .number-at .ensures) _ (at-p .p .given .1) in
+    omega (arith, t, at-loop .loop .inv .counted))
+    (λ c.
+    let (at-loop, at-number-at, at-p) : At tie.At-loop × At tie.After-number-at × At tie.After-p = search in
+    let t = there _ _ _ (at-loop .loop .inv) _ (at-number-at .number-at .ensures) _ (at-p .p .given .1) in
+    omega (arith, t))
+    (λ c. let at-p : At tie.After-p = search in search (last-message, at-p .p .given .1, c .enum-told3 .given .1))
     (λ c. search needs)
-    (λ c. let t = there _ _ _ (c .before .before .before .before .before .before .before .before .loop .inv) _ (c .before .before .before .before .before .before .before .number-at .ensures) _ (c .before .before .before .before .before .p .given .1) in omega (arith, t))
+    (λ c.
+    let (at-loop, at-number-at, at-p) : At tie.At-loop × At tie.After-number-at × At tie.After-p = search in
+    let t = there _ _ _ (at-loop .loop .inv) _ (at-number-at .number-at .ensures) _ (at-p .p .given .1) in
+    omega (arith, t))
     (λ c κs. search needs)
     (λ c κs. search needs)
     (λ c. search needs)
-    (λ c. search (cut-message, c .before .before .before .before .before .before .before .before .before .before .p .given .1, c .before .before .before .before .before .before .m .given .1, c .before .k .given .1))
+    (λ c. let (at-p, at-m) : At tie.After-p × At tie.After-m = search in search (cut-message, at-p .p .given .1, at-m .m .given .1, c .before .k .given .1))
     (λ c. search needs)
-    (λ c. let t = there _ _ _ (c .before .before .before .before .before .before .before .before .before .before .before .before .before .loop .inv) _ (c .before .before .before .before .before .before .before .before .before .before .before .before .number-at .ensures) _ (c .before .before .before .before .before .before .before .before .before .before .p .given .1) in omega (arith, t, c .before .before .before .before .before .before .before .before .before .before .before .before .before .loop .inv .counted))
-    (λ c. let z = past-message _ _ _ (c .before .before .before .before .before .before .before .before .before .before .before .before .before .loop .inv) _ (c .before .before .before .before .before .before .before .before .before .before .before .before .number-at .ensures) _ (c .before .before .before .before .before .before .before .before .before .before .p .given .1) _ (c .before .before .before .before .before .before .before .before .find-message .ensures) _ (c .before .before .before .before .before .before .m .given .1) _ (c .before .before .before .before .layout .ensures) _ (c .before .before .before .skip .ensures) _ (c .before .k2 .given .1) in omega (arith, z))
-    (λ c. search (going-on, c .before .before .before .before .before .before .before .before .before .before .p .given .1, c .before .before .before .before .before .before .m .given .1, c .before .k2 .given .1)))
+    (λ c.
+    let (at-loop, at-number-at, at-p) : At tie.At-loop × At tie.After-number-at × At tie.After-p = search in
+    let t = there _ _ _ (at-loop .loop .inv) _ (at-number-at .number-at .ensures) _ (at-p .p .given .1) in
+    omega (arith, t, at-loop .loop .inv .counted))
+    (λ c.
+    let (at-loop, at-number-at, at-p, at-find-message, at-m, at-layout, at-skip) :
+    At tie.At-loop × At tie.After-number-at × At tie.After-p × At tie.After-find-message × At tie.After-m × At tie.After-layout × At tie.After-skip = search in
+    let z = past-message _ _ _ (at-loop .loop .inv) _ (at-number-at .number-at .ensures) _ (at-p .p .given .1) _ (at-find-message .find-message .ensures) _ (at-m .m .given .1) _
+    (at-layout .layout .ensures) _ (at-skip .skip .ensures) _ (c .before .k2 .given .1) in
+    omega (arith, z))
+    (λ c. let (at-p, at-m) : At tie.After-p × At tie.After-m = search in search (going-on, at-p .p .given .1, at-m .m .given .1, c .before .k2 .given .1)))

@@ -8,15 +8,16 @@ use Rattle.views.proofs.extract_store_path.Statement.{statement}
 use Rattle.views.proofs.extract_store_path.Tie as tie
 
 returns : tie.Need-returns
-returns c = sym (too-short (c .before .before .args .s .now) (omega arith))
+returns c = let at-start : tie.Start = search in sym (too-short (at-start .args .s .now) (omega arith))
 
 returns-2 : tie.Need-returns-2
 returns-2 c =
-    let s = c .before .before .before .before .before .args .s .now in
-    judged-is _ _ (c .is-text .ensures) ∙ sym (in-directory s (omega arith) (sym (c .before .if2 .taken) ∙ c .before .before .in-store .ensures))
+    let (at-start, at-in-store) : tie.Start × tie.After-in-store = search in
+    let s = at-start .args .s .now in
+    judged-is _ _ (c .is-text .ensures) ∙ sym (in-directory s (omega arith) (sym (c .before .if2 .taken) ∙ at-in-store .in-store .ensures))
 
 returns-3 : tie.Need-returns-3
-returns-3 c = sym (elsewhere (c .before .before .before .before .args .s .now) (sym (c .if2 .left) ∙ c .before .in-store .ensures))
+returns-3 c = let at-start : tie.Start = search in sym (elsewhere (at-start .args .s .now) (sym (c .if2 .left) ∙ c .before .in-store .ensures))
 
 pub extract-store-path-spec : {M : Type 1} → statement M
 extract-store-path-spec = tie.close (tie.spec returns (λ c κs. search needs) (λ c κs. search needs) returns-2 returns-3)

@@ -14,20 +14,26 @@ Inv-loop s directory i₀ i = Passed storeDirectory s i
 abbrev μ-loop : tie.MeasureT-loop
 μ-loop s directory i₀ i = 11 - i
 
+abbrev At : (tie.InvT-loop → tie.MeasureT-loop → Type 0) → Type 0
+At place = place Inv-loop μ-loop
+
 returns : tie.Need-returns Inv-loop μ-loop
 returns c =
-    let l = c .before .before .before .before .loop in
-    sym (passed-fail storeDirectory _ (c .before .before .before .before .before .before .pre) (l .i) (l .inv) (omega arith) (c .if1 .taken))
+    let (at-start, at-loop) : At tie.Start × At tie.At-loop = search in
+    let l = at-loop .loop in
+    sym (passed-fail storeDirectory _ (at-start .pre) (l .i) (l .inv) (omega arith) (c .if1 .taken))
 
 loop-again : tie.Need-loop-again Inv-loop μ-loop
 loop-again c =
-    let l = c .before .before .before .before .loop in
-    passed-more storeDirectory _ (c .before .before .before .before .before .before .pre) (l .i) (l .inv) (omega arith) (c .if1 .left)
+    let (at-start, at-loop) : At tie.Start × At tie.At-loop = search in
+    let l = at-loop .loop in
+    passed-more storeDirectory _ (at-start .pre) (l .i) (l .inv) (omega arith) (c .if1 .left)
 
 returns-2 : tie.Need-returns-2 Inv-loop μ-loop
 returns-2 c =
+    let at-start : At tie.Start = search in
     let l = c .before .loop in
-    sym (passed-all storeDirectory _ (c .before .before .before .pre) (l .i) (l .inv) (omega arith))
+    sym (passed-all storeDirectory _ (at-start .pre) (l .i) (l .inv) (omega arith))
 
 pub in-store-spec : {M : Type 1} → statement M
 in-store-spec =

@@ -12,11 +12,13 @@ part-spec =
     (tie.spec
     (λ c κs. search needs)
     (λ c. search needs)
-    (λ c. omega (arith, inside _ _ _ _ (c .before .before .before .find .ensures) _ _ (c .before .start .given .1) .within))
+    (λ c. let at-find : tie.After-find = search in omega (arith, inside _ _ _ _ (at-find .find .ensures) _ _ (c .before .start .given .1) .within))
     (λ c. search needs)
     (λ c. search needs)
-    (λ c. omega (arith, inside _ _ _ _ (c .before .before .before .find .ensures) _ _ (c .before .start .given .1) .within))
+    (λ c. let at-find : tie.After-find = search in omega (arith, inside _ _ _ _ (at-find .find .ensures) _ _ (c .before .start .given .1) .within))
     (λ c. search needs)
     (λ c. search needs)
-    (λ c. (part _ _ _ _ (c .before .before .before .before .find .ensures) _ _ (c .before .before .start .given .1), part-begins _ _ _ _ (c .before .before .before .before .find .ensures) _ _ (c .before .before .start .given .1) _ _))
-    (λ c. (search empty, empty-begins _ _ _ _ (c .before .before .before .find .ensures) _ (c .before .enum-told .given .1) _ _)))
+    (λ c.
+    let (at-find, at-start) : tie.After-find × tie.After-start = search in
+    (part _ _ _ _ (at-find .find .ensures) _ _ (at-start .start .given .1), part-begins _ _ _ _ (at-find .find .ensures) _ _ (at-start .start .given .1) _ _))
+    (λ c. let at-find : tie.After-find = search in (search empty, empty-begins _ _ _ _ (at-find .find .ensures) _ (c .before .enum-told .given .1) _ _)))

@@ -15,29 +15,44 @@ Inv-loop s from payload₀ place at₀ filled₀ payload at filled = Copying s p
 abbrev μ-loop : tie.MeasureT-loop
 μ-loop s from payload₀ place at₀ filled₀ payload at filled = length s - at
 
+abbrev At : (tie.InvT-loop → tie.MeasureT-loop → Type 0) → Type 0
+At place = place Inv-loop μ-loop
+
 loop-holds : tie.Need-loop-holds Inv-loop μ-loop
 loop-holds c = copying-start _ _ _ _
 
 same-length : tie.Need-same-length Inv-loop μ-loop
-same-length c = c .before .before .before .loop .inv .wide
+same-length c = let at-loop : At tie.At-loop = search in at-loop .loop .inv .wide
 
 same-length-2 : tie.Need-same-length-2 Inv-loop μ-loop
-same-length-2 c = c .before .before .before .before .loop .inv .wide
+same-length-2 c = let at-loop : At tie.At-loop = search in at-loop .loop .inv .wide
 
 returns : tie.Need-returns Inv-loop μ-loop
-returns c = (copying-wrong _ _ _ _ _ _ _ (c .before .before .before .loop .inv) _ (c .before .before .chunk-at .ensures) _ (c .enum-told .given .1), tt)
+returns c =
+    let (at-loop, at-chunk-at) : At tie.At-loop × At tie.After-chunk-at = search in
+    (copying-wrong _ _ _ _ _ _ _ (at-loop .loop .inv) _ (at-chunk-at .chunk-at .ensures) _ (c .enum-told .given .1), tt)
 
 returns-2 : tie.Need-returns-2 Inv-loop μ-loop
-returns-2 c = (copying-last _ _ _ _ _ _ _ (c .before .before .before .before .loop .inv) _ (c .before .before .before .chunk-at .ensures) _ (c .before .m .given .1), copying-past _ _ _ _ _ _ _ (c .before .before .before .before .loop .inv) _ (c .before .before .before .chunk-at .ensures) _ (c .before .m .given .1))
+returns-2 c =
+    let (at-loop, at-chunk-at) : At tie.At-loop × At tie.After-chunk-at = search in (
+      copying-last _ _ _ _ _ _ _ (at-loop .loop .inv) _ (at-chunk-at .chunk-at .ensures) _ (c .before .m .given .1),
+      copying-past _ _ _ _ _ _ _ (at-loop .loop .inv) _ (at-chunk-at .chunk-at .ensures) _ (c .before .m .given .1),
+    )
 
 put-chunk-requires : tie.Need-put-chunk-requires Inv-loop μ-loop
-put-chunk-requires c κs = part-found (now (c .before .before .before .before .before .before .before .before .args .s)) _ _ (c .before .before .before .before .chunk-at .ensures) _ _ _ (c .before .before .m2 .given .1) .2
+put-chunk-requires c κs =
+    let (at-start, at-chunk-at, at-m2) : At tie.Start × At tie.After-chunk-at × At tie.After-m2 = search in
+    part-found (now (at-start .args .s)) _ _ (at-chunk-at .chunk-at .ensures) _ _ _ (at-m2 .m2 .given .1) .2
 
 loop-less : tie.Need-loop-less Inv-loop μ-loop
-loop-less c = omega (arith, part-found (now (c .before .before .before .before .before .before .before .before .before .before .before .args .s)) _ _ (c .before .before .before .before .before .before .before .chunk-at .ensures) _ _ _ (c .before .before .before .before .before .m2 .given .1))
+loop-less c =
+    let (at-start, at-chunk-at, at-m2) : At tie.Start × At tie.After-chunk-at × At tie.After-m2 = search in
+    omega (arith, part-found (now (at-start .args .s)) _ _ (at-chunk-at .chunk-at .ensures) _ _ _ (at-m2 .m2 .given .1))
 
 loop-again : tie.Need-loop-again Inv-loop μ-loop
-loop-again c = copying-on _ _ _ _ _ _ _ (c .before .before .before .before .before .before .before .before .loop .inv) _ (c .before .before .before .before .before .before .before .chunk-at .ensures) _ _ _ (c .before .before .before .before .before .m2 .given .1) _ _ (c .before .before .put-chunk .ensures)
+loop-again c =
+    let (at-loop, at-chunk-at, at-m2, at-put-chunk) : At tie.At-loop × At tie.After-chunk-at × At tie.After-m2 × At tie.After-put-chunk = search in
+    copying-on _ _ _ _ _ _ _ (at-loop .loop .inv) _ (at-chunk-at .chunk-at .ensures) _ _ _ (at-m2 .m2 .given .1) _ _ (at-put-chunk .put-chunk .ensures)
 
 pub copy-frames-spec : {M : Type 1} → statement M
 copy-frames-spec =

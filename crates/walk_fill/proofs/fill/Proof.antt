@@ -15,6 +15,9 @@ Inv-loop s from l words₀ word bytes₀ byte payload₀ at₀ pc₀ reps₀ bod
 abbrev μ-loop : tie.MeasureT-loop
 μ-loop s from l words₀ word bytes₀ byte payload₀ at₀ pc₀ reps₀ body₀ run₀ w₀ b₀ p₀ words bytes payload at pc reps body run w b p = fuelOf s at pc reps run
 
+abbrev At : (tie.InvT-loop → tie.MeasureT-loop → Type 0) → Type 0
+At place = place Inv-loop μ-loop
+
 pub fill-spec : {M : Type 1} → statement M
 fill-spec =
     tie.close
@@ -22,25 +25,40 @@ fill-spec =
     Inv-loop
     μ-loop
     (λ c κs. search needs)
-    (λ c. fold-start (now (c .before .before .before .before .before .args .s)) _ _ _ (c .begin .result) (c .begin .ensures .1))
+    (λ c. let at-start : At tie.Start = search in fold-start (now (at-start .args .s)) _ _ _ (c .begin .result) (c .begin .ensures .1))
     (λ c κs. search needs)
     (λ c. search needs)
-    (λ c. c .before .before .before .loop .inv .words .size)
-    (λ c. c .before .before .before .loop .inv .bytes .size)
-    (λ c. c .before .before .before .loop .inv .payload .size)
-    (λ c. fold-end (now (c .before .before .before .before .before .before .before .before .before .args .s)) _ _ _ _ _ (c .before .before .before .loop .inv) (c .before .before .pass .result) (c .before .before .pass .ensures .0) _ (c .enum-told .given .1))
+    (λ c. let at-loop : At tie.At-loop = search in at-loop .loop .inv .words .size)
+    (λ c. let at-loop : At tie.At-loop = search in at-loop .loop .inv .bytes .size)
+    (λ c. let at-loop : At tie.At-loop = search in at-loop .loop .inv .payload .size)
+    (λ c.
+    let (at-start, at-loop, at-pass) : At tie.Start × At tie.At-loop × At tie.After-pass = search in
+    fold-end (now (at-start .args .s)) _ _ _ _ _ (at-loop .loop .inv) (at-pass .pass .result) (at-pass .pass .ensures .0) _ (c .enum-told .given .1))
     (λ c. search needs)
-    (λ c. c .before .before .before .loop .inv .words .size)
-    (λ c. c .before .before .before .loop .inv .bytes .size)
-    (λ c. c .before .before .before .loop .inv .payload .size)
-    (λ c. fold-refused (now (c .before .before .before .before .before .before .before .before .before .args .s)) _ _ _ _ _ (c .before .before .before .loop .inv) (c .before .before .pass .result) (c .before .before .pass .ensures .0) _ (c .enum-told2 .given .1))
+    (λ c. let at-loop : At tie.At-loop = search in at-loop .loop .inv .words .size)
+    (λ c. let at-loop : At tie.At-loop = search in at-loop .loop .inv .bytes .size)
+    (λ c. let at-loop : At tie.At-loop = search in at-loop .loop .inv .payload .size)
+    (λ c.
+    let (at-start, at-loop, at-pass) : At tie.Start × At tie.At-loop × At tie.After-pass = search in
+    fold-refused (now (at-start .args .s)) _ _ _ _ _ (at-loop .loop .inv) (at-pass .pass .result) (at-pass .pass .ensures .0) _ (c .enum-told2 .given .1))
     (λ c. search needs)
-    (λ c κs. stays-within (now (c .before .before .before .before .before .before .before .before .before .before .before .before .before .args .s)) _ _ _ _ _ (c .before .before .before .before .before .before .before .loop .inv) (c .before .before .before .before .before .before .pass .result) (c .before .before .before .before .before .before .pass .ensures .0) _ (c .before .before .before .before .before .before .pass .ensures .1 .0) _ _ (c .before .before .before .before .k .given .1))
+    (λ c κs.
+    let (at-start, at-loop, at-pass, at-k) : At tie.Start × At tie.At-loop × At tie.After-pass × At tie.After-k = search in
+    stays-within (now (at-start .args .s)) _ _ _ _ _ (at-loop .loop .inv) (at-pass .pass .result) (at-pass .pass .ensures .0) _ (at-pass .pass .ensures .1 .0) _ _ (at-k .k .given .1))
     (λ c. search needs)
     (λ c. search needs)
     (λ c. search needs)
     (λ c. search needs)
-    (λ c. fold-cut (now (c .before .before .before .before .before .before .before .before .before .before .before .before .before .before .before .before .before .before .before .before .before .before .before .args .s)) _ _ _ _ _ (c .before .before .before .before .before .before .before .before .before .before .before .before .before .before .before .before .before .loop .inv) (c .before .before .before .before .before .before .before .before .before .before .before .before .before .before .before .before .pass .result) (c .before .before .before .before .before .before .before .before .before .before .before .before .before .before .before .before .pass .ensures .0) _ (c .before .before .before .before .before .before .before .before .before .before .before .before .before .before .before .before .pass .ensures .1 .0) _ _ (c .before .before .before .before .before .before .before .before .before .before .before .before .before .before .k .given .1) _ _ _ _ (c .before .before .before .before .before .before .before .before .before .fill-field .ensures .0) _ _ _ (c .before .r .given .1))
+    (λ c.
+    let (at-start, at-loop, at-pass, at-k, at-fill-field) : At tie.Start × At tie.At-loop × At tie.After-pass × At tie.After-k × At tie.After-fill-field = search in
+    fold-cut (now (at-start .args .s)) _ _ _ _ _ (at-loop .loop .inv) (at-pass .pass .result) (at-pass .pass .ensures .0) _ (at-pass .pass .ensures .1 .0) _ _ (at-k .k .given .1) _ _ _ _
+    (at-fill-field .fill-field .ensures .0) _ _ _ (c .before .r .given .1))
     (λ c. search needs)
-    (λ c. filled-less (now (c .before .before .before .before .before .before .before .before .before .before .before .before .before .before .before .before .before .before .before .before .before .before .before .args .s)) _ _ _ _ _ (c .before .before .before .before .before .before .before .before .before .before .before .before .before .before .before .before .before .loop .inv) (c .before .before .before .before .before .before .before .before .before .before .before .before .before .before .before .before .pass .result) (c .before .before .before .before .before .before .before .before .before .before .before .before .before .before .before .before .pass .ensures .0) _ (c .before .before .before .before .before .before .before .before .before .before .before .before .before .before .before .before .pass .ensures .1 .0) _ _ (c .before .before .before .before .before .before .before .before .before .before .before .before .before .before .k .given .1) _ _ _ _ (c .before .before .before .before .before .before .before .before .before .fill-field .ensures .0) (c .before .before .before .before .before .before .before .before .before .fill-field .ensures .1) _ _ _ _ (c .before .r2 .given .1))
-    (λ c. fold-filled (now (c .before .before .before .before .before .before .before .before .before .before .before .before .before .before .before .before .before .before .before .before .before .before .before .args .s)) _ _ _ _ _ (c .before .before .before .before .before .before .before .before .before .before .before .before .before .before .before .before .before .loop .inv) (c .before .before .before .before .before .before .before .before .before .before .before .before .before .before .before .before .pass .result) (c .before .before .before .before .before .before .before .before .before .before .before .before .before .before .before .before .pass .ensures .0) _ (c .before .before .before .before .before .before .before .before .before .before .before .before .before .before .before .before .pass .ensures .1 .0) _ _ (c .before .before .before .before .before .before .before .before .before .before .before .before .before .before .k .given .1) _ _ _ _ (c .before .before .before .before .before .before .before .before .before .fill-field .ensures .0) _ _ _ _ (c .before .r2 .given .1)))
+    (λ c.
+    let (at-start, at-loop, at-pass, at-k, at-fill-field) : At tie.Start × At tie.At-loop × At tie.After-pass × At tie.After-k × At tie.After-fill-field = search in
+    filled-less (now (at-start .args .s)) _ _ _ _ _ (at-loop .loop .inv) (at-pass .pass .result) (at-pass .pass .ensures .0) _ (at-pass .pass .ensures .1 .0) _ _ (at-k .k .given .1) _ _ _ _
+    (at-fill-field .fill-field .ensures .0) (at-fill-field .fill-field .ensures .1) _ _ _ _ (c .before .r2 .given .1))
+    (λ c.
+    let (at-start, at-loop, at-pass, at-k, at-fill-field) : At tie.Start × At tie.At-loop × At tie.After-pass × At tie.After-k × At tie.After-fill-field = search in
+    fold-filled (now (at-start .args .s)) _ _ _ _ _ (at-loop .loop .inv) (at-pass .pass .result) (at-pass .pass .ensures .0) _ (at-pass .pass .ensures .1 .0) _ _ (at-k .k .given .1) _ _ _ _
+    (at-fill-field .fill-field .ensures .0) _ _ _ _ (c .before .r2 .given .1)))

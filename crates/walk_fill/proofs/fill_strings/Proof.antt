@@ -8,19 +8,36 @@ use Rattle.pieces.proofs.Numbers.{number-known}
 use Rattle.walk_fill.proofs.Folding.{text-series, set-series, pairs-series, cut-here, series-past}
 
 returns : tie.Need-returns
-returns c = (text-series _ _ _ _ _ _ _ (c .before .before .before .before .fill-series .result) _ _ (c .before .before .before .before .before .before .before .if1 .taken) (c .before .before .before .before .fill-series .ensures .0), c .before .before .before .before .fill-series .ensures .1)
+returns c =
+    let (at-then1, at-fill-series) : tie.Then1 × tie.After-fill-series = search in
+    (text-series _ _ _ _ _ _ _ (at-fill-series .fill-series .result) _ _ (at-then1 .if1 .taken) (at-fill-series .fill-series .ensures .0), at-fill-series .fill-series .ensures .1)
 
 add-body : tie.Need-add-body
-add-body c = let h = number-known (now (c .before .before .before .before .before .before .before .before .args .s)) _ _ (c .before .before .before .number-at .ensures) _ (c .before .m .given .1) in omega arith
+add-body c =
+    let (at-start, at-number-at) : tie.Start × tie.After-number-at = search in
+    let h = number-known (now (at-start .args .s)) _ _ (at-number-at .number-at .ensures) _ (c .before .m .given .1) in
+    omega arith
 
 returns-2 : tie.Need-returns-2
-returns-2 c = (set-series _ _ _ _ _ _ _ (c .before .before .before .before .fill-series2 .result) _ _ (c .before .before .before .before .before .before .before .before .before .before .before .before .if1 .left) (c .before .before .before .before .before .before .before .before .before .before .before .before .before .before .before .before .pre .1) _ (c .before .before .before .before .before .before .before .before .before .before .before .number-at .ensures) _ (c .before .before .before .before .before .before .before .before .before .m .given .1) (c .before .before .before .before .before .before .before .if2 .taken) (c .before .before .before .before .fill-series2 .ensures .0), series-past _ (c .before .before .before .before .fill-series2 .result) (c .before .before .before .before .fill-series2 .ensures .1))
+returns-2 c =
+    let (at-start, at-else1, at-number-at, at-m, at-then2, at-fill-series2) : tie.Start × tie.Else1 × tie.After-number-at × tie.After-m × tie.Then2 × tie.After-fill-series2 = search in (
+      set-series _ _ _ _ _ _ _ (at-fill-series2 .fill-series2 .result) _ _ (at-else1 .if1 .left) (at-start .pre .1) _ (at-number-at .number-at .ensures) _ (at-m .m .given .1) (at-then2 .if2 .taken)
+          (at-fill-series2 .fill-series2 .ensures .0),
+      series-past _ (at-fill-series2 .fill-series2 .result) (at-fill-series2 .fill-series2 .ensures .1),
+    )
 
 returns-3 : tie.Need-returns-3
-returns-3 c = (λ ps n i k. cut-here _ _ _ _ i k (c .before .before .before .if1 .left) (λ z. omega (arith, c .before .before .before .before .before .before .before .pre)) _ (c .before .before .number-at .ensures) (c .enum-told .given .1), tt)
+returns-3 c =
+    let (at-start, at-else1, at-number-at) : tie.Start × tie.Else1 × tie.After-number-at = search in
+    (λ ps n i k. cut-here _ _ _ _ i k (at-else1 .if1 .left) (λ z. omega (arith, at-start .pre)) _ (at-number-at .number-at .ensures) (c .enum-told .given .1), tt)
 
 returns-4 : tie.Need-returns-4
-returns-4 c = (pairs-series _ _ _ _ _ _ _ (c .before .before .before .before .fill-series3 .result) _ _ (c .before .before .before .before .before .before .before .before .before .before .before .before .if1 .left) (c .before .before .before .before .before .before .before .before .before .before .before .before .before .before .before .before .pre .1) _ (c .before .before .before .before .before .before .before .before .before .before .before .number-at .ensures) _ (c .before .before .before .before .before .before .before .before .before .m .given .1) (c .before .before .before .before .before .before .before .before .before .before .before .before .before .before .before .before .pre .0) (c .before .before .before .before .before .before .before .if2 .left) (c .before .before .before .before .fill-series3 .ensures .0), series-past _ (c .before .before .before .before .fill-series3 .result) (c .before .before .before .before .fill-series3 .ensures .1))
+returns-4 c =
+    let (at-start, at-else1, at-number-at, at-m, at-else2, at-fill-series3) : tie.Start × tie.Else1 × tie.After-number-at × tie.After-m × tie.Else2 × tie.After-fill-series3 = search in (
+      pairs-series _ _ _ _ _ _ _ (at-fill-series3 .fill-series3 .result) _ _ (at-else1 .if1 .left) (at-start .pre .1) _ (at-number-at .number-at .ensures) _ (at-m .m .given .1) (at-start .pre .0)
+          (at-else2 .if2 .left) (at-fill-series3 .fill-series3 .ensures .0),
+      series-past _ (at-fill-series3 .fill-series3 .result) (at-fill-series3 .fill-series3 .ensures .1),
+    )
 
 pub fill-strings-spec : {M : Type 1} → statement M
 fill-strings-spec =

@@ -13,10 +13,10 @@ add-t8 : tie.Need-add-t8
 add-t8 c = let h = group-in _ (packedGroup (c .before .at .result)) (packed-group _ _ (c .before .at .ensures)) (λ z. let w : _≡_ {A = ℕ} 1 0 = sym (c .if1 .taken) ∙ z in omega arith) in omega arith
 
 returns : tie.Need-returns
-returns c = begin-inside _ _ (c .before .before .first .ensures) (packedGroup (c .before .at .result)) (packed-group _ _ (c .before .at .ensures)) (c .if1 .taken)
+returns c = let at-first : tie.After-first = search in begin-inside _ _ (at-first .first .ensures) (packedGroup (c .before .at .result)) (packed-group _ _ (c .before .at .ensures)) (c .if1 .taken)
 
 returns-2 : tie.Need-returns-2
-returns-2 c = begin-before _ _ (c .before .before .first .ensures) (packedGroup (c .before .at .result)) (packed-group _ _ (c .before .at .ensures)) (c .if1 .left)
+returns-2 c = let at-first : tie.After-first = search in begin-before _ _ (at-first .first .ensures) (packedGroup (c .before .at .result)) (packed-group _ _ (c .before .at .ensures)) (c .if1 .left)
 
 pub begin-spec : {M : Type 1} → statement M
 begin-spec =

@@ -1,6 +1,5 @@
 -- `walk_items::in_brief` meets its contract: by the place of the first group.
 use borrow.Author.Needs.{needs}
-use mathlib.Core.Path.{sym, _∙_}
 use Rattle.walk_items.proofs.in_brief.Statement.{statement}
 use Rattle.walk_items.proofs.in_brief.Tie as tie
 use Rattle.walk_items.proofs.Trees.{brief-nothing, brief-empty, brief-number, brief-longer}
@@ -13,7 +12,7 @@ in-brief-spec =
     (λ c. search needs)
     (λ c. brief-nothing _ _ (c .before .first .ensures) (c .if1 .taken))
     (λ c. search needs)
-    (λ c. brief-empty _ _ (c .before .before .first .ensures) (c .before .if1 .left) (c .if2 .taken))
+    (λ c. let at-first : tie.After-first = search in brief-empty _ _ (at-first .first .ensures) (c .before .if1 .left) (c .if2 .taken))
     (λ c. search needs)
-    (λ c. brief-number _ _ (c .before .before .before .first .ensures) (c .before .before .if1 .left) (c .before .if2 .left) (c .if3 .taken))
-    (λ c. brief-longer _ _ (c .before .before .before .first .ensures) (c .before .before .if1 .left) (c .before .if2 .left) (c .if3 .left)))
+    (λ c. let (at-first, at-else1) : tie.After-first × tie.Else1 = search in brief-number _ _ (at-first .first .ensures) (at-else1 .if1 .left) (c .before .if2 .left) (c .if3 .taken))
+    (λ c. let (at-first, at-else1) : tie.After-first × tie.Else1 = search in brief-longer _ _ (at-first .first .ensures) (at-else1 .if1 .left) (c .before .if2 .left) (c .if3 .left)))

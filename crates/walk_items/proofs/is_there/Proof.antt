@@ -11,5 +11,9 @@ is-there-spec =
     (λ c. simp (eq-eqb _ _ (c .if1 .taken)))
     (λ c κs. search needs)
     (λ c κs. search needs)
-    (λ c. simp (ne-eqb _ _ (c .before .before .before .if1 .left), eq-eqb _ _ (c .if2 .taken), c .before .at-least .ensures, c .before .before .spoken .ensures))
-    (λ c. simp (ne-eqb _ _ (c .before .before .before .if1 .left), ne-eqb _ _ (c .if2 .left), c .before .at-least .ensures, c .before .before .spoken .ensures)))
+    (λ c.
+    let (at-else1, at-spoken) : tie.Else1 × tie.After-spoken = search in
+    simp (ne-eqb _ _ (at-else1 .if1 .left), eq-eqb _ _ (c .if2 .taken), c .before .at-least .ensures, at-spoken .spoken .ensures))
+    (λ c.
+    let (at-else1, at-spoken) : tie.Else1 × tie.After-spoken = search in
+    simp (ne-eqb _ _ (at-else1 .if1 .left), ne-eqb _ _ (c .if2 .left), c .before .at-least .ensures, at-spoken .spoken .ensures)))

@@ -14,12 +14,16 @@ next-spec =
     (λ c κs. search needs)
     (λ c. search needs)
     (λ c κs. search needs)
-    (λ c. field-ends _ _ _ _ _ (fieldOf (c .before .before .at .result)) (packed-field _ _ (c .before .before .at .ensures)) _ (c .before .if1 .taken) (c .after-fields .ensures))
+    (λ c. let at-at : tie.After-at = search in field-ends _ _ _ _ _ (fieldOf (at-at .at .result)) (packed-field _ _ (at-at .at .ensures)) _ (c .before .if1 .taken) (c .after-fields .ensures))
     (λ c. let h = field-in _ (fieldOf (c .before .at .result)) (packed-field _ _ (c .before .at .ensures)) (c .if1 .left) in omega arith)
     (λ c. search needs)
     (λ c. search needs)
     (λ c κs. search needs)
-    (λ c. field-absent _ _ _ _ _ (fieldOf (c .before .before .before .at .result)) (packed-field _ _ (c .before .before .before .at .ensures)) (c .before .before .if1 .left) _ (c .before .is-there .ensures) (c .if2 .taken))
+    (λ c.
+    let (at-at, at-else1) : tie.After-at × tie.Else1 = search in
+    field-absent _ _ _ _ _ (fieldOf (at-at .at .result)) (packed-field _ _ (at-at .at .ensures)) (at-else1 .if1 .left) _ (c .before .is-there .ensures) (c .if2 .taken))
     (λ c. search needs)
     (λ c. search needs)
-    (λ c. field-here _ _ _ _ _ (fieldOf (c .before .before .before .at .result)) (packed-field _ _ (c .before .before .before .at .ensures)) (c .before .before .if1 .left) _ (c .before .is-there .ensures) (c .if2 .left)))
+    (λ c.
+    let (at-at, at-else1) : tie.After-at × tie.Else1 = search in
+    field-here _ _ _ _ _ (fieldOf (at-at .at .result)) (packed-field _ _ (at-at .at .ensures)) (at-else1 .if1 .left) _ (c .before .is-there .ensures) (c .if2 .left)))

@@ -16,6 +16,8 @@ next-group-spec =
     (λ c. search needs)
     (λ c. group-ends _ (packedGroup (c .before .at .result)) (packed-group _ _ (c .before .at .ensures)) (c .if1 .taken))
     (λ c. let h = group-in _ (packedGroup (c .before .at .result)) (packed-group _ _ (c .before .at .ensures)) (c .if1 .left) in omega arith)
-    (λ c. group-flag _ (packedGroup (c .before .before .at .result)) (packed-group _ _ (c .before .before .at .ensures)) (c .if2 .taken))
-    (λ c. group-count _ (packedGroup (c .before .before .before .at .result)) (packed-group _ _ (c .before .before .before .at .ensures)) (c .if3 .taken))
-    (λ c. group-starts _ (packedGroup (c .before .before .before .at .result)) (packed-group _ _ (c .before .before .before .at .ensures)) (c .before .before .if1 .left) (c .before .if2 .left) (c .if3 .left)))
+    (λ c. let at-at : tie.After-at = search in group-flag _ (packedGroup (at-at .at .result)) (packed-group _ _ (at-at .at .ensures)) (c .if2 .taken))
+    (λ c. let at-at : tie.After-at = search in group-count _ (packedGroup (at-at .at .result)) (packed-group _ _ (at-at .at .ensures)) (c .if3 .taken))
+    (λ c.
+    let (at-at, at-else1) : tie.After-at × tie.Else1 = search in
+    group-starts _ (packedGroup (at-at .at .result)) (packed-group _ _ (at-at .at .ensures)) (at-else1 .if1 .left) (c .before .if2 .left) (c .if3 .left)))

@@ -7,10 +7,10 @@ use Rattle.walk_judge.specs.Judged.{answerOf}
 use Rattle.walk_judge.specs.declared.Said.{Said}
 
 returns : tie.Need-returns
-returns c = ap (λ (x : Said). answerOf x (c .before .before .before .args .numbers) (c .before .before .before .args .counts)) (sym (c .before .said .given .1))
+returns c = let at-start : tie.Start = search in ap (λ (x : Said). answerOf x (at-start .args .numbers) (at-start .args .counts)) (sym (c .before .said .given .1))
 
 returns-2 : tie.Need-returns-2
-returns-2 c = ap (λ (x : Said). answerOf x (c .before .before .before .args .numbers) (c .before .before .before .args .counts)) (sym (c .before .said2 .given .1))
+returns-2 c = let at-start : tie.Start = search in ap (λ (x : Said). answerOf x (at-start .args .numbers) (at-start .args .counts)) (sym (c .before .said2 .given .1))
 
 pub answer-of-spec : {M : Type 1} → statement M
 answer-of-spec =

@@ -12,13 +12,25 @@ feed-spec =
     (tie.spec
     (λ c κs. search needs)
     (λ c. search needs)
-    (λ c. (fed-refused (now (c .before .before .before .before .before .before .before .args .s)) _ _ _ _ _ _ (c .before .before .before .before .before .before .before .pre .0) (c .before .before .before .before .before .if1 .taken) _ _ (c .before .before .before .judge-text .ensures .0) _ _ (c .before .k .given .1), tt))
+    (λ c.
+    let (at-start, at-then1, at-judge-text) : tie.Start × tie.Then1 × tie.After-judge-text = search in
+    (fed-refused (now (at-start .args .s)) _ _ _ _ _ _ (at-start .pre .0) (at-then1 .if1 .taken) _ _ (at-judge-text .judge-text .ensures .0) _ _ (c .before .k .given .1), tt))
     (λ c. search needs)
-    (λ c. (fed-text (now (c .before .before .before .before .before .before .before .args .s)) _ _ _ _ _ _ (c .before .before .before .before .before .before .before .pre .0) (c .before .before .before .before .before .if1 .taken) _ _ (c .before .before .before .judge-text .ensures .0) _ _ _ (c .before .k2 .given .1), series-took (now (c .before .before .before .before .before .before .before .args .s)) _ _ _ _ (c .before .before .before .judge-text .ensures .1) (c .before .k2 .given .1)))
+    (λ c.
+    let (at-start, at-then1, at-judge-text) : tie.Start × tie.Then1 × tie.After-judge-text = search in (
+      fed-text (now (at-start .args .s)) _ _ _ _ _ _ (at-start .pre .0) (at-then1 .if1 .taken) _ _ (at-judge-text .judge-text .ensures .0) _ _ _ (c .before .k2 .given .1),
+      series-took (now (at-start .args .s)) _ _ _ _ (at-judge-text .judge-text .ensures .1) (c .before .k2 .given .1),
+    ))
     (λ c κs. search needs)
     (λ c. search needs)
-    (λ c. (frames-refused (now (c .before .before .before .before .before .before .before .args .s)) _ _ _ _ _ _ (c .before .before .before .before .before .before .before .pre .0) _ (c .before .before .before .before .if2 .taken) _ (c .before .before .before .judge-frames .ensures .0) _ (c .before .k3 .given .1), tt))
+    (λ c.
+    let (at-start, at-then2, at-judge-frames) : tie.Start × tie.Then2 × tie.After-judge-frames = search in
+    (frames-refused (now (at-start .args .s)) _ _ _ _ _ _ (at-start .pre .0) _ (at-then2 .if2 .taken) _ (at-judge-frames .judge-frames .ensures .0) _ (c .before .k3 .given .1), tt))
     (λ c. search needs)
-    (λ c. (frames-fed (now (c .before .before .before .before .before .before .before .args .s)) _ _ _ _ _ _ (c .before .before .before .before .before .before .before .pre .0) _ (c .before .before .before .before .if2 .taken) _ (c .before .before .before .judge-frames .ensures .0) _ _ (c .before .k4 .given .1), series-took (now (c .before .before .before .before .before .before .before .args .s)) _ _ _ _ (c .before .before .before .judge-frames .ensures .1) (c .before .k4 .given .1)))
-    (λ c κs. (c .before .before .before .before .pre .0, c .before .before .before .before .pre .1, c .before .before .if1 .left, c .before .if2 .left))
+    (λ c.
+    let (at-start, at-then2, at-judge-frames) : tie.Start × tie.Then2 × tie.After-judge-frames = search in (
+      frames-fed (now (at-start .args .s)) _ _ _ _ _ _ (at-start .pre .0) _ (at-then2 .if2 .taken) _ (at-judge-frames .judge-frames .ensures .0) _ _ (c .before .k4 .given .1),
+      series-took (now (at-start .args .s)) _ _ _ _ (at-judge-frames .judge-frames .ensures .1) (c .before .k4 .given .1),
+    ))
+    (λ c κs. let (at-start, at-else1) : tie.Start × tie.Else1 = search in (at-start .pre .0, at-start .pre .1, at-else1 .if1 .left, c .before .if2 .left))
     (λ c. (c .feed-number .ensures .0 _, c .feed-number .ensures .1)))

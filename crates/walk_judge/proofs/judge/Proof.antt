@@ -15,10 +15,14 @@ use Rattle.walk_judge.proofs.Judging.{toCome, Going, going-start, going
 
 abbrev Inv-loop : tie.InvT-loop
 Inv-loop s from layout slots room entries payload there numbers₀ counts₀ window₀ at₀ pc₀ reps₀ body₀ run₀ n₀ p₀ present₀ numbers counts window at pc reps body run n p present =
-    Going s slots room (judgeOf s slots room (gathered numbers₀ counts₀ there entries payload) (piecesOf layout s from)) (ahead window₀ entries (piecesOf layout s from)) (gathered numbers counts present n p) window (toCome s (versionOf layout) at pc reps body run)
+    Going s slots room (judgeOf s slots room (gathered numbers₀ counts₀ there entries payload) (piecesOf layout s from)) (ahead window₀ entries (piecesOf layout s from))
+    (gathered numbers counts present n p) window (toCome s (versionOf layout) at pc reps body run)
 
 abbrev μ-loop : tie.MeasureT-loop
 μ-loop s from layout slots room entries payload there numbers₀ counts₀ window₀ at₀ pc₀ reps₀ body₀ run₀ n₀ p₀ present₀ numbers counts window at pc reps body run n p present = fuelOf s at pc reps run
+
+abbrev At : (tie.InvT-loop → tie.MeasureT-loop → Type 0) → Type 0
+At place = place Inv-loop μ-loop
 
 pub judge-spec : {M : Type 1} → statement M
 judge-spec =
@@ -29,14 +33,23 @@ judge-spec =
     (λ c κs. search needs)
     (λ c. going-start _ _ _ _ _ _ _ (c .begin .result) (c .begin .ensures .1))
     (λ c κs. search needs)
-    (λ c. going-end _ _ _ _ _ _ _ _ _ _ (c .before .before .next .ensures .1 .0) _ _ _ _ (c .before .before .before .loop .inv) (c .if1 .taken))
-    (λ c. quiet-less (now (c .before .before .before .before .before .before .before .before .args .s)) _ _ _ _ (c .before .before .before .before .next .result) (c .before .before .before .before .next .ensures .1 .1) (c .if2 .taken))
-    (λ c. going-quiet _ _ _ _ _ _ _ _ _ _ (c .before .before .before .before .next .ensures .1 .0) _ _ _ _ (c .before .before .before .before .before .loop .inv) (c .if2 .taken))
-    (λ c κs. (c .before .before .before .if1 .left, c .before .if2 .left))
+    (λ c. let (at-loop, at-next) : At tie.At-loop × At tie.After-next = search in going-end _ _ _ _ _ _ _ _ _ _ (at-next .next .ensures .1 .0) _ _ _ _ (at-loop .loop .inv) (c .if1 .taken))
+    (λ c. let (at-start, at-next) : At tie.Start × At tie.After-next = search in quiet-less (now (at-start .args .s)) _ _ _ _ (at-next .next .result) (at-next .next .ensures .1 .1) (c .if2 .taken))
+    (λ c. let (at-loop, at-next) : At tie.At-loop × At tie.After-next = search in going-quiet _ _ _ _ _ _ _ _ _ _ (at-next .next .ensures .1 .0) _ _ _ _ (at-loop .loop .inv) (c .if2 .taken))
+    (λ c κs. let at-else1 : At tie.Else1 = search in (at-else1 .if1 .left, c .before .if2 .left))
     (λ c. search needs)
     (λ c κs. search needs)
-    (λ c. (going-refused _ _ _ _ _ _ _ _ _ _ (c .before .before .before .before .before .before .before .before .before .before .before .before .before .next .ensures .1 .0) _ _ _ _ (c .before .before .before .before .before .before .before .before .before .before .before .before .before .before .loop .inv) _ _ (c .before .before .before .before .before .before .before .feed .ensures .0) _ _ (c .before .before .before .before .before .k .given .1) (c .refuse .ensures .1), refused-empty (c .refuse .result) _ (c .refuse .ensures .0) (now (c .before .before .before .before .before .before .before .before .before .before .before .before .before .before .before .before .before .args .window)) (c .before .before .before .before .before .before .before .before .before .before .before .before .before .before .before .before .before .args .entries) (entriesOf (piecesOf (c .before .before .before .before .before .before .before .before .before .before .before .before .before .before .before .before .before .args .layout) (now (c .before .before .before .before .before .before .before .before .before .before .before .before .before .before .before .before .before .args .s)) (c .before .before .before .before .before .before .before .before .before .before .before .before .before .before .before .before .before .args .from)))))
+    (λ c.
+    let (at-start, at-loop, at-next, at-feed, at-k) : At tie.Start × At tie.At-loop × At tie.After-next × At tie.After-feed × At tie.After-k = search in (
+      going-refused _ _ _ _ _ _ _ _ _ _ (at-next .next .ensures .1 .0) _ _ _ _ (at-loop .loop .inv) _ _ (at-feed .feed .ensures .0) _ _ (at-k .k .given .1) (c .refuse .ensures .1),
+      refused-empty (c .refuse .result) _ (c .refuse .ensures .0) (now (at-start .args .window)) (at-start .args .entries)
+          (entriesOf (piecesOf (at-start .args .layout) (now (at-start .args .s)) (at-start .args .from))),
+    ))
     (λ c. search needs)
     (λ c κs. search needs)
-    (λ c. fed-less (now (c .before .before .before .before .before .before .before .before .before .before .before .before .before .before .before .before .args .s)) _ _ _ _ (c .before .before .before .before .before .before .feed .result) _ _ _ _ _ _ _ _ (c .before .before .before .before .before .before .feed .ensures .1) (c .before .before .before .before .k2 .given .1) (omega arith))
-    (λ c. going-on _ _ _ _ _ _ _ _ _ _ (c .before .before .before .before .before .before .before .before .before .before .before .before .next .ensures .1 .0) _ _ _ _ (c .before .before .before .before .before .before .before .before .before .before .before .before .before .loop .inv) _ _ (c .before .before .before .before .before .before .feed .ensures .0) _ _ _ _ _ _ (c .before .before .before .before .k2 .given .1) _ (c .note .ensures _ _) refl))
+    (λ c.
+    let (at-start, at-feed, at-k2, at-known-told2) : At tie.Start × At tie.After-feed × At tie.After-k2 × At tie.After-known-told2 = search in
+    fed-less (now (at-start .args .s)) _ _ _ _ (at-feed .feed .result) _ _ _ _ _ _ _ _ (at-feed .feed .ensures .1) (at-k2 .k2 .given .1) (omega (arith, at-known-told2 .known-told2)))
+    (λ c.
+    let (at-loop, at-next, at-feed, at-k2) : At tie.At-loop × At tie.After-next × At tie.After-feed × At tie.After-k2 = search in
+    going-on _ _ _ _ _ _ _ _ _ _ (at-next .next .ensures .1 .0) _ _ _ _ (at-loop .loop .inv) _ _ (at-feed .feed .ensures .0) _ _ _ _ _ _ (at-k2 .k2 .given .1) _ (c .note .ensures _ _) refl))

@@ -2,7 +2,6 @@
 use borrow.Author.Needs.{needs}
 use Rattle.walk_judge.proofs.judge_after.Statement.{statement}
 use Rattle.walk_judge.proofs.judge_after.Tie as tie
-use denote.Ref.{now}
 use native.Mathlib.Omega.{arith}
 use Rattle.walk_judge.proofs.Feeding.{took-from, set-after, pairs-after, true-after, type-after, typed-after, false-after, nothing-after}
 
@@ -16,9 +15,13 @@ judge-after-spec =
     (λ c. (search pairs-after, c .judge-series2 .ensures .1))
     (λ c. (search false-after, omega arith))
     (λ c κs. search needs)
-    (λ c. (true-after _ _ _ _ _ _ _ _ _ _ (c .before .before .if3 .taken) (c .before .if4 .left) (c .drop-number .ensures .0 _ _), took-from _ _ (c .drop-number .result) (c .drop-number .ensures .1)))
+    (λ c.
+    let at-then3 : tie.Then3 = search in
+    (true-after _ _ _ _ _ _ _ _ _ _ (at-then3 .if3 .taken) (c .before .if4 .left) (c .drop-number .ensures .0 _ _), took-from _ _ (c .drop-number .result) (c .drop-number .ensures .1)))
     (λ c κs. search needs)
-    (λ c. (type-after _ _ _ _ _ _ _ _ _ _ (c .before .before .if5 .taken) (c .before .if6 .taken) (c .drop-number2 .ensures .0 _ _), took-from _ _ (c .drop-number2 .result) (c .drop-number2 .ensures .1)))
+    (λ c.
+    let at-then5 : tie.Then5 = search in
+    (type-after _ _ _ _ _ _ _ _ _ _ (at-then5 .if5 .taken) (c .before .if6 .taken) (c .drop-number2 .ensures .0 _ _), took-from _ _ (c .drop-number2 .result) (c .drop-number2 .ensures .1)))
     (λ c κs. search needs)
     (λ c. (search typed-after, took-from _ _ (c .judge-text .result) (c .judge-text .ensures .1)))
     (λ c. (search nothing-after, omega arith)))

@@ -17,25 +17,30 @@ Inv-loop s from l field times start group keep at₀ pc₀ reps₀ body₀ run�
 abbrev μ-loop : tie.MeasureT-loop
 μ-loop s from l field times start group keep at₀ pc₀ reps₀ body₀ run₀ at pc reps body i = fuelOf s at pc reps i
 
+abbrev At : (tie.InvT-loop → tie.MeasureT-loop → Type 0) → Type 0
+At place = place Inv-loop μ-loop
+
 loop-holds : tie.Need-loop-holds Inv-loop μ-loop
 loop-holds c = passing-start _ _ _ _ _ _ _ _
 
 returns : tie.Need-returns Inv-loop μ-loop
-returns c = passing-end _ _ _ _ _ _ _ _ _ _ _ (c .before .before .before .loop .inv) _ (c .before .before .next .ensures .0) (c .before .before .next .ensures .1 .0) (c .if1 .taken)
+returns c =
+    let (at-loop, at-next) : At tie.At-loop × At tie.After-next = search in
+    passing-end _ _ _ _ _ _ _ _ _ _ _ (at-loop .loop .inv) _ (at-next .next .ensures .0) (at-next .next .ensures .1 .0) (c .if1 .taken)
 
 returns-2 : tie.Need-returns-2 Inv-loop μ-loop
 returns-2 c =
-    let d = c .before .before .before .before in
-    let n = d .next .ensures in
-    passing-stays _ _ _ _ _ _ _ _ _ _ _ (d .before .loop .inv) _ (n .0) (n .1 .0) (n .1 .1) (c .before .before .if1 .left) _ (c .before .stays .ensures) (c .if2 .taken)
+    let (at-loop, at-next, at-else1) : At tie.At-loop × At tie.After-next × At tie.Else1 = search in
+    let n = at-next .next .ensures in
+    passing-stays _ _ _ _ _ _ _ _ _ _ _ (at-loop .loop .inv) _ (n .0) (n .1 .0) (n .1 .1) (at-else1 .if1 .left) _ (c .before .stays .ensures) (c .if2 .taken)
 
 returns-3 : tie.Need-returns-3 Inv-loop μ-loop
 returns-3 c =
-    let d = c .before .before .before in
-    let e = d .before .before .before in
-    let n = e .before .before .next .ensures in
-    passing-refused _ _ _ _ _ _ _ _ _ _ _ (e .before .before .before .loop .inv) _ (n .0) (n .1 .0) (n .1 .1) (e .if1 .left) _ (d .before .before .stays .ensures) (d .before .if2 .left) _
-    (d .pass-item .ensures .0) (d .pass-item .ensures .1 .0) (d .pass-item .ensures .1 .1) _ (c .before .k .given .1)
+    let (at-loop, at-next, at-else1, at-stays, at-else2, at-pass-item) : At tie.At-loop × At tie.After-next × At tie.Else1 × At tie.After-stays × At tie.Else2 × At tie.After-pass-item = search in
+    let n = at-next .next .ensures in
+    let p = at-pass-item .pass-item .ensures in
+    passing-refused _ _ _ _ _ _ _ _ _ _ _ (at-loop .loop .inv) _ (n .0) (n .1 .0) (n .1 .1) (at-else1 .if1 .left) _ (at-stays .stays .ensures) (at-else2 .if2 .left) _
+    (p .0) (p .1 .0) (p .1 .1) _ (c .before .k .given .1)
 
 loop-less : tie.Need-loop-less Inv-loop μ-loop
 loop-less c = search passing-less

@@ -9,7 +9,10 @@ use Rattle.pieces.proofs.Found.{plain-is}
 use Rattle.walk_pass.proofs.Passing.{value-took, text-field, frames-field, cut-field, number-field}
 
 add-pass-after : tie.Need-add-pass-after
-add-pass-after c = let h = number-known (now (c .before .before .before .before .before .before .before .args .s)) _ _ (c .before .before .before .number-at .ensures) _ (c .before .m .given .1) in omega arith
+add-pass-after c =
+    let (at-start, at-number-at) : tie.Start × tie.After-number-at = search in
+    let h = number-known (now (at-start .args .s)) _ _ (at-number-at .number-at .ensures) _ (c .before .m .given .1) in
+    omega arith
 
 returns : tie.Need-returns
 returns c = (text-field _ _ _ (c .pass-text .result) (c .before .if1 .taken) (c .pass-text .ensures .0), c .pass-text .ensures .1)
@@ -18,10 +21,16 @@ returns-2 : tie.Need-returns-2
 returns-2 c = (frames-field _ _ _ (c .pass-frames .result) (c .before .if2 .taken) (c .pass-frames .ensures .0), c .pass-frames .ensures .1)
 
 returns-3 : tie.Need-returns-3
-returns-3 c = (cut-field _ _ _ (c .before .before .before .before .before .if1 .left) (c .before .before .before .before .if2 .left) _ (c .before .before .before .number-at .ensures) (c .before .enum-told .given .1) _ (c .refuse .ensures), plain-is _ _ _ (c .refuse .ensures))
+returns-3 c =
+    let (at-else1, at-else2, at-number-at) : tie.Else1 × tie.Else2 × tie.After-number-at = search in
+    (cut-field _ _ _ (at-else1 .if1 .left) (at-else2 .if2 .left) _ (at-number-at .number-at .ensures) (c .before .enum-told .given .1) _ (c .refuse .ensures), plain-is _ _ _ (c .refuse .ensures))
 
 returns-4 : tie.Need-returns-4
-returns-4 c = (number-field _ _ _ (c .before .before .before .before .before .before .if1 .left) (c .before .before .before .before .before .if2 .left) _ (c .before .before .before .before .number-at .ensures) _ (c .before .before .m .given .1) (c .pass-after .result) (c .pass-after .ensures .0), value-took _ _ _ (c .before .before .before .before .number-at .ensures) _ (c .before .before .m .given .1) (c .pass-after .result) (c .pass-after .ensures .1))
+returns-4 c =
+    let (at-else1, at-else2, at-number-at, at-m) : tie.Else1 × tie.Else2 × tie.After-number-at × tie.After-m = search in (
+      number-field _ _ _ (at-else1 .if1 .left) (at-else2 .if2 .left) _ (at-number-at .number-at .ensures) _ (at-m .m .given .1) (c .pass-after .result) (c .pass-after .ensures .0),
+      value-took _ _ _ (at-number-at .number-at .ensures) _ (at-m .m .given .1) (c .pass-after .result) (c .pass-after .ensures .1),
+    )
 
 pub pass-field-spec : {M : Type 1} → statement M
 pass-field-spec =

@@ -15,20 +15,25 @@ Inv-loop s from at₀ at = Framing s from at
 abbrev μ-loop : tie.MeasureT-loop
 μ-loop s from at₀ at = length s - at
 
+abbrev At : (tie.InvT-loop → tie.MeasureT-loop → Type 0) → Type 0
+At place = place Inv-loop μ-loop
+
 loop-holds : tie.Need-loop-holds Inv-loop μ-loop
 loop-holds c = framing-start _ _
 
 returns : tie.Need-returns Inv-loop μ-loop
-returns c = framing-wrong _ _ _ (c .before .before .before .before .loop .inv) _ (c .before .before .before .chunk-at .ensures) _ (c .before .m .given .1)
+returns c = let (at-loop, at-chunk-at) : At tie.At-loop × At tie.After-chunk-at = search in framing-wrong _ _ _ (at-loop .loop .inv) _ (at-chunk-at .chunk-at .ensures) _ (c .before .m .given .1)
 
 returns-2 : tie.Need-returns-2 Inv-loop μ-loop
-returns-2 c = framing-last _ _ _ (c .before .before .before .before .loop .inv) _ (c .before .before .before .chunk-at .ensures) _ (c .before .m2 .given .1)
+returns-2 c = let (at-loop, at-chunk-at) : At tie.At-loop × At tie.After-chunk-at = search in framing-last _ _ _ (at-loop .loop .inv) _ (at-chunk-at .chunk-at .ensures) _ (c .before .m2 .given .1)
 
 loop-less : tie.Need-loop-less Inv-loop μ-loop
-loop-less c = omega (arith, part-found (now (c .before .before .before .before .before .before .args .s)) _ _ (c .before .before .before .chunk-at .ensures) _ _ _ (c .before .m3 .given .1))
+loop-less c =
+    let (at-start, at-chunk-at) : At tie.Start × At tie.After-chunk-at = search in
+    omega (arith, part-found (now (at-start .args .s)) _ _ (at-chunk-at .chunk-at .ensures) _ _ _ (c .before .m3 .given .1))
 
 loop-again : tie.Need-loop-again Inv-loop μ-loop
-loop-again c = framing-on _ _ _ (c .before .before .before .before .loop .inv) _ (c .before .before .before .chunk-at .ensures) _ _ _ (c .before .m3 .given .1)
+loop-again c = let (at-loop, at-chunk-at) : At tie.At-loop × At tie.After-chunk-at = search in framing-on _ _ _ (at-loop .loop .inv) _ (at-chunk-at .chunk-at .ensures) _ _ _ (c .before .m3 .given .1)
 
 pub pass-frames-spec : {M : Type 1} → statement M
 pass-frames-spec =

@@ -9,13 +9,22 @@ use Rattle.pieces.proofs.Found.{plain-is}
 use Rattle.walk_pass.proofs.Passing.{cut-passes, number-passes, number-took}
 
 add-t6 : tie.Need-add-t6
-add-t6 c = let h = number-known (now (c .before .before .before .before .args .s)) _ _ (c .before .before .number-at .ensures) _ (c .enum-told2 .given .1) in omega arith
+add-t6 c =
+    let (at-start, at-number-at) : tie.Start × tie.After-number-at = search in
+    let h = number-known (now (at-start .args .s)) _ _ (at-number-at .number-at .ensures) _ (c .enum-told2 .given .1) in
+    omega arith
 
 returns : tie.Need-returns
-returns c = (λ b i. cut-passes _ _ _ (c .before .before .before .number-at .ensures) (c .before .enum-told .given .1) _ (c .refuse .ensures) b i (λ k n. k tt), plain-is _ _ _ (c .refuse .ensures))
+returns c =
+    let at-number-at : tie.After-number-at = search in
+    (λ b i. cut-passes _ _ _ (at-number-at .number-at .ensures) (c .before .enum-told .given .1) _ (c .refuse .ensures) b i (λ k n. k tt), plain-is _ _ _ (c .refuse .ensures))
 
 returns-2 : tie.Need-returns-2
-returns-2 c = (λ b i. number-passes _ _ _ (c .before .before .number-at .ensures) _ (c .enum-told2 .given .1) b i, number-took (now (c .before .before .before .before .args .s)) _ _ (c .before .before .number-at .ensures) _ (c .enum-told2 .given .1))
+returns-2 c =
+    let (at-start, at-number-at) : tie.Start × tie.After-number-at = search in (
+      λ b i. number-passes _ _ _ (at-number-at .number-at .ensures) _ (c .enum-told2 .given .1) b i,
+      number-took (now (at-start .args .s)) _ _ (at-number-at .number-at .ensures) _ (c .enum-told2 .given .1),
+    )
 
 pub pass-number-spec : {M : Type 1} → statement M
 pass-number-spec =

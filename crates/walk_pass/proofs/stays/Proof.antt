@@ -9,6 +9,6 @@ stays-spec =
     (tie.spec
     (λ c. simp (c .if1 .taken))
     (λ c. simp (c .before .if1 .left, eq-eqb _ _ (c .if2 .taken)))
-    (λ c. simp (c .before .before .if1 .left, ne-eqb _ _ (c .before .if2 .left), lt-ltb _ _ (c .if3 .taken)))
-    (λ c. simp (c .before .before .before .if1 .left, ne-eqb _ _ (c .before .before .if2 .left), le-ltb _ _ (c .before .if3 .left), lt-ltb _ _ (c .if4 .taken)))
-    (λ c. simp (c .before .before .before .if1 .left, ne-eqb _ _ (c .before .before .if2 .left), le-ltb _ _ (c .before .if3 .left), le-ltb _ _ (c .if4 .left))))
+    (λ c. let at-else1 : tie.Else1 = search in simp (at-else1 .if1 .left, ne-eqb _ _ (c .before .if2 .left), lt-ltb _ _ (c .if3 .taken)))
+    (λ c. let (at-else1, at-else2) : tie.Else1 × tie.Else2 = search in simp (at-else1 .if1 .left, ne-eqb _ _ (at-else2 .if2 .left), le-ltb _ _ (c .before .if3 .left), lt-ltb _ _ (c .if4 .taken)))
+    (λ c. let (at-else1, at-else2) : tie.Else1 × tie.Else2 = search in simp (at-else1 .if1 .left, ne-eqb _ _ (at-else2 .if2 .left), le-ltb _ _ (c .before .if3 .left), le-ltb _ _ (c .if4 .left))))

@@ -18,4 +18,8 @@ fill-in-spec =
     (λ c κs. search needs)
     (λ c. search needs)
     (λ c. search needs)
-    (λ c. let h = c .before .before .before .before .before .before .before .before .before .before .before .before .before .pre in let n = c .before .before .before .before .before .before .before .before .if1 .left in (from-window _ _ _ _ _ h n (λ x. x) _ _ (c .before .before .before .before .put-window .ensures .0), (from-window _ _ _ _ _ h n bytesOf _ _ (c .before .before .before .before .put-window .ensures .1), no-payload _ _ _ _ _ h n _))))
+    (λ c.
+    let (at-start, at-else1, at-put-window) : tie.Start × tie.Else1 × tie.After-put-window = search in
+    let h = at-start .pre in
+    let n = at-else1 .if1 .left in
+    (from-window _ _ _ _ _ h n (λ x. x) _ _ (at-put-window .put-window .ensures .0), (from-window _ _ _ _ _ h n bytesOf _ _ (at-put-window .put-window .ensures .1), no-payload _ _ _ _ _ h n _))))

@@ -17,4 +17,6 @@ copy-front-spec =
     (λ c. search needs)
     (λ c κs. search needs)
     (λ c. search needs)
-    (λ c. part-back (now (c .before .before .before .before .before .before .before .args .out)) (now (c .before .before .before .before .before .before .before .args .c)) _ _ _ (c .before .before .before .before .before .before .before .pre .0) (c .before .before .before .before .before .before .before .pre .1) (c .before .before .copy .ensures .1)))
+    (λ c.
+    let (at-start, at-copy) : tie.Start × tie.After-copy = search in
+    part-back (now (at-start .args .out)) (now (at-start .args .c)) _ _ _ (at-start .pre .0) (at-start .pre .1) (at-copy .copy .ensures .1)))

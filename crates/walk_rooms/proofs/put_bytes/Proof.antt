@@ -10,12 +10,16 @@ pub put-bytes-spec : {M : Type 1} → statement M
 put-bytes-spec =
     tie.close
     (tie.spec
-    (λ c. put-past (now (c .before .before .before .args .out)) (c .before .before .before .args .at) _ (c .if1 .taken))
+    (λ c. let at-start : tie.Start = search in put-past (now (at-start .args .out)) (at-start .args .at) _ (c .if1 .taken))
     (λ c. search needs)
     (λ c κs. search needs)
     (λ c. search needs)
-    (λ c. put-beginning (now (c .before .before .before .before .before .before .before .before .args .c)) (now (c .before .before .before .before .before .before .before .before .args .out)) (c .before .before .before .before .before .before .before .before .args .at) _ _ (c .before .before .before .before .if2 .taken) (omega arith) (c .before .before .copy-front .ensures))
+    (λ c.
+    let (at-start, at-then2, at-copy-front) : tie.Start × tie.Then2 × tie.After-copy-front = search in
+    put-beginning (now (at-start .args .c)) (now (at-start .args .out)) (at-start .args .at) _ _ (at-then2 .if2 .taken) (omega arith) (at-copy-front .copy-front .ensures))
     (λ c κs. search needs)
     (λ c. search needs)
     (λ c. search needs)
-    (λ c. put-whole (now (c .before .before .before .before .before .before .before .before .args .c)) (now (c .before .before .before .before .before .before .before .before .args .out)) (c .before .before .before .before .before .before .before .before .args .at) _ (omega arith) (c .before .before .copy-front2 .ensures)))
+    (λ c.
+    let (at-start, at-copy-front2) : tie.Start × tie.After-copy-front2 = search in
+    put-whole (now (at-start .args .c)) (now (at-start .args .out)) (at-start .args .at) _ (omega arith) (at-copy-front2 .copy-front2 .ensures)))

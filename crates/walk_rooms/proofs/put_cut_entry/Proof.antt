@@ -16,4 +16,6 @@ put-cut-entry-spec =
     (λ c. search needs)
     (λ c κs. search needs)
     (λ c. search needs)
-    (λ c. put-entry _ _ _ _ _ _ _ _ _ refl (c .before .before .before .before .before .before .before .before .before .put-number .ensures) (c .before .before .before .before .before .before .put-number2 .ensures) (c .before .before .put-bytes .ensures)))
+    (λ c.
+    let (at-put-number, at-put-number2, at-put-bytes) : tie.After-put-number × tie.After-put-number2 × tie.After-put-bytes = search in
+    put-entry _ _ _ _ _ _ _ _ _ refl (at-put-number .put-number .ensures) (at-put-number2 .put-number2 .ensures) (at-put-bytes .put-bytes .ensures)))

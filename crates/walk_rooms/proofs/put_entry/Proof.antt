@@ -11,5 +11,5 @@ put-entry-spec =
     (tie.spec
     (λ c κs. search needs)
     (λ c κs. search needs)
-    (λ c. c .before .before .put2 .ensures .size ∙ c .before .before .before .before .before .before .put .ensures .size)
-    (λ c. put-two _ _ _ _ _ _ _ _ (c .before .before .before .before .before .before .put .ensures) (c .before .before .put2 .ensures)))
+    (λ c. let (at-put, at-put2) : tie.After-put × tie.After-put2 = search in at-put2 .put2 .ensures .size ∙ at-put .put .ensures .size)
+    (λ c. let (at-put, at-put2) : tie.After-put × tie.After-put2 = search in put-two _ _ _ _ _ _ _ _ (at-put .put .ensures) (at-put2 .put2 .ensures)))

@@ -11,14 +11,16 @@ put-entry-bytes-spec =
     (tie.spec
     (λ c κs. search needs)
     (λ c. search needs)
-    (λ c. c .before .before .put-cut-entry .ensures)
+    (λ c. let at-put-cut-entry : tie.After-put-cut-entry = search in at-put-cut-entry .put-cut-entry .ensures)
     (λ c. search needs)
     (λ c κs. search needs)
     (λ c. search needs)
-    (λ c. c .before .before .put-cut-entry2 .ensures)
+    (λ c. let at-put-cut-entry2 : tie.After-put-cut-entry2 = search in at-put-cut-entry2 .put-cut-entry2 .ensures)
     (λ c κs. search needs)
     (λ c. search needs)
     (λ c κs. search needs)
     (λ c. search needs)
     (λ c. search needs)
-    (λ c. put-numbers _ _ _ _ _ _ (omega arith) (c .before .before .before .before .before .before .put-number .ensures) (c .before .before .put-number2 .ensures)))
+    (λ c.
+    let (at-put-number, at-put-number2) : tie.After-put-number × tie.After-put-number2 = search in
+    put-numbers _ _ _ _ _ _ (omega arith) (at-put-number .put-number .ensures) (at-put-number2 .put-number2 .ensures)))

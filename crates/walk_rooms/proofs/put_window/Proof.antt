@@ -13,6 +13,9 @@ Inv-loop window n words₀ bytes₀ count i₀ w₀ b₀ words bytes i w b = Flu
 abbrev μ-loop : tie.MeasureT-loop
 μ-loop window n words₀ bytes₀ count i₀ w₀ b₀ words bytes i w b = count - i
 
+abbrev At : (tie.InvT-loop → tie.MeasureT-loop → Type 0) → Type 0
+At place = place Inv-loop μ-loop
+
 pub put-window-spec : {M : Type 1} → statement M
 put-window-spec =
     tie.close
@@ -32,7 +35,13 @@ put-window-spec =
     (λ c κs. search needs)
     (λ c. search needs)
     (λ c. search needs)
-    (λ c. flushing-on _ _ _ _ (few (now (c .before .before .before .before .before .before .before .before .before .before .before .before .before .before .before .before .args .window)) _ _ (c .before .before .before .before .before .before .before .before .before .before .before .before .fewer .ensures)) _ _ _ _ _ (c .before .before .before .before .before .before .before .before .before .before .before .loop .inv) (c .before .before .before .before .before .before .before .before .before .before .loop-test .taken) _ _ refl refl _ _ _ _ (c .before .before .before .before .before .before .put-entry .ensures) (c .before .before .put-entry-bytes .ensures))
+    (λ c.
+    let (at-start, at-fewer, at-loop, at-in-loop, at-put-entry, at-put-entry-bytes) :
+    At tie.Start × At tie.After-fewer × At tie.At-loop × At tie.In-loop × At tie.After-put-entry × At tie.After-put-entry-bytes = search in
+    flushing-on _ _ _ _ (few (now (at-start .args .window)) _ _ (at-fewer .fewer .ensures)) _ _ _ _ _ (at-loop .loop .inv) (at-in-loop .loop-test .taken) _ _ refl refl _ _ _ _
+    (at-put-entry .put-entry .ensures) (at-put-entry-bytes .put-entry-bytes .ensures))
     (λ c. c .before .loop .inv .words .size)
     (λ c. c .before .loop .inv .bytes .size)
-    (λ c. rw (← c .before .before .fewer .ensures) (flushing-end _ _ _ _ (few (now (c .before .before .before .before .before .before .args .window)) _ _ (c .before .before .fewer .ensures)) _ _ _ _ _ (c .before .loop .inv) (c .loop-test .left))))
+    (λ c.
+    let (at-start, at-fewer) : At tie.Start × At tie.After-fewer = search in
+    rw (← at-fewer .fewer .ensures) (flushing-end _ _ _ _ (few (now (at-start .args .window)) _ _ (at-fewer .fewer .ensures)) _ _ _ _ _ (c .before .loop .inv) (c .loop-test .left))))

@@ -2,7 +2,6 @@
 use borrow.Author.Needs.{needs}
 use Rattle.walk_shapes.proofs.read_brief.Statement.{statement}
 use Rattle.walk_shapes.proofs.read_brief.Tie as tie
-use denote.Ref.{now}
 use Rattle.walk_read.proofs.Filled.{brief-is}
 use Rattle.walk_shapes.proofs.Brief.{nothing-there, number-there}
 
@@ -16,6 +15,10 @@ read-brief-spec =
     (λ c. search needs)
     (λ c κs. search brief-is)
     (λ c. search needs)
-    (λ c. (c .read-nothing .ensures _, nothing-there _ (c .before .before .before .before .before .before .before .args .code) (brief-is _ _ _ (c .before .before .before .before .before .in-brief .ensures .1) (c .before .before .before .enum-told .given .1)) _))
-    (λ c. (c .read-number .ensures, number-there _ (c .before .before .before .before .before .before .before .args .code) (brief-is _ _ _ (c .before .before .before .before .before .in-brief .ensures .1) (c .before .before .before .enum-told2 .given .1)) _))
+    (λ c.
+    let (at-start, at-in-brief, at-enum-told) : tie.Start × tie.After-in-brief × tie.After-enum-told = search in
+    (c .read-nothing .ensures _, nothing-there _ (at-start .args .code) (brief-is _ _ _ (at-in-brief .in-brief .ensures .1) (at-enum-told .enum-told .given .1)) _))
+    (λ c.
+    let (at-start, at-in-brief, at-enum-told2) : tie.Start × tie.After-in-brief × tie.After-enum-told2 = search in
+    (c .read-number .ensures, number-there _ (at-start .args .code) (brief-is _ _ _ (at-in-brief .in-brief .ensures .1) (at-enum-told2 .enum-told2 .given .1)) _))
     (λ c. search needs))

@@ -10,4 +10,4 @@ read-nothing-spec =
     (tie.spec
     (λ c κs. search needs)
     (λ c κs. search needs)
-    (λ c. nothing-said _ _ (c .before .before .before .before .pre) _ (rw (← c .before .spoken .ensures) (c .kind-of .ensures))))
+    (λ c. let at-start : tie.Start = search in nothing-said _ _ (at-start .pre) _ (rw (← c .before .spoken .ensures) (c .kind-of .ensures))))

@@ -2,7 +2,6 @@
 use borrow.Author.Needs.{needs}
 use Rattle.walk_shapes.proofs.read_number.Statement.{statement}
 use Rattle.walk_shapes.proofs.read_number.Tie as tie
-use denote.Ref.{now}
 use Rattle.walk_shapes.proofs.Brief.{short-said, number-said}
 
 pub read-number-spec : {M : Type 1} → statement M
@@ -18,4 +17,6 @@ read-number-spec =
     (λ c κs. search needs)
     (λ c κs. search needs)
     (λ c. search short-said)
-    (λ c. number-said _ _ (c .before .before .before .before .before .before .before .before .before .pre) _ _ (c .before .before .before .before .before .before .before .number-at .ensures) _ _ (c .before .before .before .before .before .m .given .1) (rw (← c .before .spoken .ensures) (c .kind-of .ensures))))
+    (λ c.
+    let (at-start, at-number-at, at-m) : tie.Start × tie.After-number-at × tie.After-m = search in
+    number-said _ _ (at-start .pre) _ _ (at-number-at .number-at .ensures) _ _ (at-m .m .given .1) (rw (← c .before .spoken .ensures) (c .kind-of .ensures))))

@@ -21,6 +21,8 @@ is-expected-spec =
     (λ c. search needs)
     (λ c κs. search needs)
     (λ c. search needs)
-    (λ c. omega (arith, number-known (now (c .before .before .before .before .before .before .before .before .before .args .s)) _ _ (c .before .before .before .before .before .before .number-at .ensures) _ (c .before .before .before .before .n .given .1)))
+    (λ c.
+    let (at-start, at-number-at, at-n) : tie.Start × tie.After-number-at × tie.After-n = search in
+    omega (arith, number-known (now (at-start .args .s)) _ _ (at-number-at .number-at .ensures) _ (at-n .n .given .1)))
     (λ c. search needs)
-    (λ c. let h : c .before .before .before .before .n .given .0 .0 ≡ c .before .before .before .before .before .before .before .before .before .args .expected = omega arith in search expected))
+    (λ c. let (at-start, at-n) : tie.Start × tie.After-n = search in let h : at-n .n .given .0 .0 ≡ at-start .args .expected = omega arith in search expected))

@@ -15,6 +15,9 @@ Inv-loop s from pend extra left at₀ p₀ l₀ x₀ at p l x = Passing s extra 
 abbrev μ-loop : tie.MeasureT-loop
 μ-loop s from pend extra left at₀ p₀ l₀ x₀ at p l x = length s - at
 
+abbrev At : (tie.InvT-loop → tie.MeasureT-loop → Type 0) → Type 0
+At place = place Inv-loop μ-loop
+
 pub pass-spec : {M : Type 1} → statement M
 pass-spec =
     tie.close
@@ -24,22 +27,44 @@ pass-spec =
     (λ c. passing-start (now (c .before .args .s)) _ _ _ _)
     (λ c κs. search needs)
     (λ c. search needs)
-    (λ c. passing-end (now (c .before .before .before .before .before .args .s)) _ _ _ _ _ _ _ (c .before .before .before .loop .inv) _ (c .before .before .after-next .ensures) (c .enum-told .given .1))
+    (λ c.
+    let (at-start, at-loop, at-after-next) : At tie.Start × At tie.At-loop × At tie.After-after-next = search in
+    passing-end (now (at-start .args .s)) _ _ _ _ _ _ _ (at-loop .loop .inv) _ (at-after-next .after-next .ensures) (c .enum-told .given .1))
     (λ c. search needs)
     (λ c κs. search needs)
-    (λ c. omega (arith, expected-fits (now (c .before .before .before .before .before .before .before .before .args .s)) _ _ _ (c .before .is-expected .ensures) (c .if1 .taken)))
-    (λ c. omega (arith, expected-fits (now (c .before .before .before .before .before .before .before .before .args .s)) _ _ _ (c .before .is-expected .ensures) (c .if1 .taken)))
+    (λ c. let at-start : At tie.Start = search in omega (arith, expected-fits (now (at-start .args .s)) _ _ _ (c .before .is-expected .ensures) (c .if1 .taken)))
+    (λ c. let at-start : At tie.Start = search in omega (arith, expected-fits (now (at-start .args .s)) _ _ _ (c .before .is-expected .ensures) (c .if1 .taken)))
     (λ c κs. search needs)
-    (λ c. omega (arith, c .padding .ensures, expected-fits (now (c .before .before .before .before .before .before .before .before .before .args .s)) _ _ _ (c .before .before .is-expected .ensures) (c .before .if1 .taken)))
-    (λ c. omega (arith, c .padding .ensures, expected-fits (now (c .before .before .before .before .before .before .before .before .before .args .s)) _ _ _ (c .before .before .is-expected .ensures) (c .before .if1 .taken)))
-    (λ c. passing-expected (now (c .before .before .before .before .before .before .before .before .before .args .s)) _ _ _ _ _ _ _ (c .before .before .before .before .before .before .before .loop .inv) _ (c .before .before .before .before .before .before .after-next .ensures) _ _ (c .before .before .before .before .m .given .1) _ _ (c .before .before .is-expected .ensures) (c .before .if1 .taken) _ (omega (arith, c .padding .ensures)))
+    (λ c.
+    let (at-start, at-is-expected) : At tie.Start × At tie.After-is-expected = search in
+    omega (arith, c .padding .ensures, expected-fits (now (at-start .args .s)) _ _ _ (at-is-expected .is-expected .ensures) (c .before .if1 .taken)))
+    (λ c.
+    let (at-start, at-is-expected) : At tie.Start × At tie.After-is-expected = search in
+    omega (arith, c .padding .ensures, expected-fits (now (at-start .args .s)) _ _ _ (at-is-expected .is-expected .ensures) (c .before .if1 .taken)))
+    (λ c.
+    let (at-start, at-loop, at-after-next, at-m, at-is-expected) : At tie.Start × At tie.At-loop × At tie.After-after-next × At tie.After-m × At tie.After-is-expected = search in
+    passing-expected (now (at-start .args .s)) _ _ _ _ _ _ _ (at-loop .loop .inv) _ (at-after-next .after-next .ensures) _ _ (at-m .m .given .1) _ _ (at-is-expected .is-expected .ensures)
+    (c .before .if1 .taken) _ (omega (arith, c .padding .ensures)))
     (λ c κs. search needs)
     (λ c. search needs)
-    (λ c. passing-bad (now (c .before .before .before .before .before .before .before .before .before .before .before .before .args .s)) _ _ _ _ _ _ _ (c .before .before .before .before .before .before .before .before .before .before .loop .inv) _ (c .before .before .before .before .before .before .before .before .before .after-next .ensures) _ _ (c .before .before .before .before .before .before .before .m .given .1) _ (c .before .before .before .text-at .ensures) _ (c .before .t .given .1))
+    (λ c.
+    let (at-start, at-loop, at-after-next, at-m, at-text-at) : At tie.Start × At tie.At-loop × At tie.After-after-next × At tie.After-m × At tie.After-text-at = search in
+    passing-bad (now (at-start .args .s)) _ _ _ _ _ _ _ (at-loop .loop .inv) _ (at-after-next .after-next .ensures) _ _ (at-m .m .given .1) _ (at-text-at .text-at .ensures) _
+    (c .before .t .given .1))
     (λ c. search needs)
-    (λ c. omega (arith, half-within (now (c .before .before .before .before .before .before .before .before .before .before .before .before .args .s)) _ _ (c .before .before .before .text-at .ensures) _ _ (c .before .t2 .given .1)))
+    (λ c.
+    let (at-start, at-text-at) : At tie.Start × At tie.After-text-at = search in
+    omega (arith, half-within (now (at-start .args .s)) _ _ (at-text-at .text-at .ensures) _ _ (c .before .t2 .given .1)))
     (λ c κs. search needs)
-    (λ c. passing-half (now (c .before .before .before .before .before .before .before .before .before .before .before .before .before .args .s)) _ _ _ _ _ _ _ (c .before .before .before .before .before .before .before .before .before .before .before .loop .inv) _ (c .before .before .before .before .before .before .before .before .before .before .after-next .ensures) _ _ (c .before .before .before .before .before .before .before .before .m .given .1) _ (c .before .before .before .before .text-at .ensures) _ _ (c .before .before .t2 .given .1) _ (c .refuse .ensures))
+    (λ c.
+    let (at-start, at-loop, at-after-next, at-m, at-text-at, at-t2) : At tie.Start × At tie.At-loop × At tie.After-after-next × At tie.After-m × At tie.After-text-at × At tie.After-t2 = search in
+    passing-half (now (at-start .args .s)) _ _ _ _ _ _ _ (at-loop .loop .inv) _ (at-after-next .after-next .ensures) _ _ (at-m .m .given .1) _ (at-text-at .text-at .ensures) _ _
+    (at-t2 .t2 .given .1) _ (c .refuse .ensures))
     (λ c. search needs)
-    (λ c. omega (arith, whole-found (now (c .before .before .before .before .before .before .before .before .before .before .before .before .args .s)) _ _ (c .before .before .before .text-at .ensures) _ _ _ (c .before .t3 .given .1)))
-    (λ c. passing-on (now (c .before .before .before .before .before .before .before .before .before .before .before .before .args .s)) _ _ _ _ _ _ _ (c .before .before .before .before .before .before .before .before .before .before .loop .inv) _ (c .before .before .before .before .before .before .before .before .before .after-next .ensures) _ _ (c .before .before .before .before .before .before .before .m .given .1) _ (c .before .before .before .text-at .ensures) _ _ _ (c .before .t3 .given .1)))
+    (λ c.
+    let (at-start, at-text-at) : At tie.Start × At tie.After-text-at = search in
+    omega (arith, whole-found (now (at-start .args .s)) _ _ (at-text-at .text-at .ensures) _ _ _ (c .before .t3 .given .1)))
+    (λ c.
+    let (at-start, at-loop, at-after-next, at-m, at-text-at) : At tie.Start × At tie.At-loop × At tie.After-after-next × At tie.After-m × At tie.After-text-at = search in
+    passing-on (now (at-start .args .s)) _ _ _ _ _ _ _ (at-loop .loop .inv) _ (at-after-next .after-next .ensures) _ _ (at-m .m .given .1) _ (at-text-at .text-at .ensures) _ _ _
+    (c .before .t3 .given .1)))

@@ -15,6 +15,13 @@ drop-number-spec =
     (λ c. search needs)
     (λ c κs. search needs)
     (λ c. search needs)
-    (λ c. let h = number-known (now (c .before .before .before .before .args .s)) _ _ (c .before .before .number-at .ensures) _ (c .enum-told2 .given .1) in omega arith)
-    (λ c. (dropped-cut _ _ _ (c .before .before .before .number-at .ensures) _ _ (c .refuse .ensures) (c .before .enum-told .given .1), tt))
-    (λ c. (dropped-value _ _ _ (c .before .before .number-at .ensures) _ (c .enum-told2 .given .1) _, value-took (now (c .before .before .before .before .args .s)) _ _ (c .before .before .number-at .ensures) _ (c .enum-told2 .given .1))))
+    (λ c.
+    let (at-start, at-number-at) : tie.Start × tie.After-number-at = search in
+    let h = number-known (now (at-start .args .s)) _ _ (at-number-at .number-at .ensures) _ (c .enum-told2 .given .1) in
+    omega arith)
+    (λ c. let at-number-at : tie.After-number-at = search in (dropped-cut _ _ _ (at-number-at .number-at .ensures) _ _ (c .refuse .ensures) (c .before .enum-told .given .1), tt))
+    (λ c.
+    let (at-start, at-number-at) : tie.Start × tie.After-number-at = search in (
+      dropped-value _ _ _ (at-number-at .number-at .ensures) _ (c .enum-told2 .given .1) _,
+      value-took (now (at-start .args .s)) _ _ (at-number-at .number-at .ensures) _ (c .enum-told2 .given .1),
+    )))

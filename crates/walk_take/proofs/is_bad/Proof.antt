@@ -2,7 +2,6 @@
 use borrow.Author.Needs.{needs}
 use Rattle.walk_take.proofs.is_bad.Statement.{statement}
 use Rattle.walk_take.proofs.is_bad.Tie as tie
-use denote.Ref.{now}
 use Rattle.walk_take.proofs.Pieces.{any-text, text-judged}
 
 pub is-bad-spec : {M : Type 1} → statement M
@@ -15,4 +14,4 @@ is-bad-spec =
     (λ c. search needs)
     (λ c. search needs)
     (λ c κs. search needs)
-    (λ c. text-judged _ _ _ _ (c .is-text .result) (c .before .before .if1 .left) (c .is-text .ensures)))
+    (λ c. let at-else1 : tie.Else1 = search in text-judged _ _ _ _ (c .is-text .result) (at-else1 .if1 .left) (c .is-text .ensures)))

@@ -15,6 +15,9 @@ Inv-loop s from room n at₀ total₀ at total = Framing s room from n at total
 abbrev μ-loop : tie.MeasureT-loop
 μ-loop s from room n at₀ total₀ at total = length s - at
 
+abbrev At : (tie.InvT-loop → tie.MeasureT-loop → Type 0) → Type 0
+At place = place Inv-loop μ-loop
+
 pub judge-frames-spec : {M : Type 1} → statement M
 judge-frames-spec =
     tie.close
@@ -24,13 +27,25 @@ judge-frames-spec =
     (λ c. framing-start _ _ _ _)
     (λ c κs. search needs)
     (λ c. search needs)
-    (λ c. (framing-wrong _ _ _ _ _ _ (c .before .before .before .before .loop .inv) _ (c .before .before .before .chunk-at .ensures) _ (c .before .m .given .1), tt))
+    (λ c.
+    let (at-loop, at-chunk-at) : At tie.At-loop × At tie.After-chunk-at = search in
+    (framing-wrong _ _ _ _ _ _ (at-loop .loop .inv) _ (at-chunk-at .chunk-at .ensures) _ (c .before .m .given .1), tt))
     (λ c. search needs)
-    (λ c. (framing-last _ _ _ _ _ _ (c .before .before .before .before .loop .inv) _ (c .before .before .before .chunk-at .ensures) _ (c .before .m2 .given .1), last-took _ _ _ _ _ _ (c .before .before .before .before .loop .inv) _ (c .before .before .before .chunk-at .ensures) _ (c .before .m2 .given .1)))
+    (λ c.
+    let (at-loop, at-chunk-at) : At tie.At-loop × At tie.After-chunk-at = search in (
+      framing-last _ _ _ _ _ _ (at-loop .loop .inv) _ (at-chunk-at .chunk-at .ensures) _ (c .before .m2 .given .1),
+      last-took _ _ _ _ _ _ (at-loop .loop .inv) _ (at-chunk-at .chunk-at .ensures) _ (c .before .m2 .given .1),
+    ))
     (λ c. search needs)
     (λ c κs. search needs)
     (λ c. search needs)
-    (λ c. (framing-stop _ _ _ _ _ _ (c .before .before .before .before .before .before .before .before .loop .inv) _ (c .before .before .before .before .before .before .before .chunk-at .ensures) _ _ _ (c .before .before .before .before .before .m3 .given .1) _ (c .before .before .before .take-chunk .ensures) _ (c .before .t .given .1), tt))
+    (λ c.
+    let (at-loop, at-chunk-at, at-m3, at-take-chunk) : At tie.At-loop × At tie.After-chunk-at × At tie.After-m3 × At tie.After-take-chunk = search in
+    (framing-stop _ _ _ _ _ _ (at-loop .loop .inv) _ (at-chunk-at .chunk-at .ensures) _ _ _ (at-m3 .m3 .given .1) _ (at-take-chunk .take-chunk .ensures) _ (c .before .t .given .1), tt))
     (λ c. search needs)
-    (λ c. omega (arith, part-found (now (c .before .before .before .before .before .before .before .before .before .before .args .s)) _ _ (c .before .before .before .before .before .before .before .chunk-at .ensures) _ _ _ (c .before .before .before .before .before .m3 .given .1)))
-    (λ c. framing-on _ _ _ _ _ _ (c .before .before .before .before .before .before .before .before .loop .inv) _ (c .before .before .before .before .before .before .before .chunk-at .ensures) _ _ _ (c .before .before .before .before .before .m3 .given .1) _ (c .before .before .before .take-chunk .ensures) _ (c .before .t2 .given .1)))
+    (λ c.
+    let (at-start, at-chunk-at, at-m3) : At tie.Start × At tie.After-chunk-at × At tie.After-m3 = search in
+    omega (arith, part-found (now (at-start .args .s)) _ _ (at-chunk-at .chunk-at .ensures) _ _ _ (at-m3 .m3 .given .1)))
+    (λ c.
+    let (at-loop, at-chunk-at, at-m3, at-take-chunk) : At tie.At-loop × At tie.After-chunk-at × At tie.After-m3 × At tie.After-take-chunk = search in
+    framing-on _ _ _ _ _ _ (at-loop .loop .inv) _ (at-chunk-at .chunk-at .ensures) _ _ _ (at-m3 .m3 .given .1) _ (at-take-chunk .take-chunk .ensures) _ (c .before .t2 .given .1)))

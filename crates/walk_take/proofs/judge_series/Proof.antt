@@ -15,6 +15,9 @@ Inv-loop s from role pend extra left slots n window₀ at₀ p₀ l₀ entries�
 abbrev μ-loop : tie.MeasureT-loop
 μ-loop s from role pend extra left slots n window₀ at₀ p₀ l₀ entries₀ window at p l entries = length s - at
 
+abbrev At : (tie.InvT-loop → tie.MeasureT-loop → Type 0) → Type 0
+At place = place Inv-loop μ-loop
+
 pub judge-series-spec : {M : Type 1} → statement M
 judge-series-spec =
     tie.close
@@ -24,11 +27,14 @@ judge-series-spec =
     (λ c. along-start _ _ _ _ _ _ _ _ _)
     (λ c κs. search needs)
     (λ c. search needs)
-    (λ c. (search along-end, c .before .before .before .loop .inv .on))
+    (λ c. let at-loop : At tie.At-loop = search in (search along-end, at-loop .loop .inv .on))
     (λ c. search needs)
     (λ c κs. search needs)
     (λ c. search needs)
     (λ c. (search along-refused, tt))
     (λ c. search needs)
-    (λ c. let a = series-took (now (c .before .before .before .before .before .before .before .before .before .before .before .args .s)) _ _ _ _ (c .before .before .before .judge-text .ensures .1) (c .before .t2 .given .1) in omega (arith, a))
+    (λ c.
+    let (at-start, at-judge-text) : At tie.Start × At tie.After-judge-text = search in
+    let a = series-took (now (at-start .args .s)) _ _ _ _ (at-judge-text .judge-text .ensures .1) (c .before .t2 .given .1) in
+    omega (arith, a))
     (λ c. search along-on))

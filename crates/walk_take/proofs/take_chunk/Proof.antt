@@ -11,8 +11,8 @@ take-chunk-spec =
     (tie.spec
     (λ c κs. search needs)
     (λ c κs. search needs)
-    (λ c r z. chunk-full _ r _ _ _ _ (c .refuse .ensures) (c .before .before .place-of .ensures) (omega arith))
+    (λ c r z. let at-place-of : tie.After-place-of = search in chunk-full _ r _ _ _ _ (c .refuse .ensures) (at-place-of .place-of .ensures) (omega arith))
     (λ c κs. search needs)
-    (λ c r z. chunk-full _ r _ _ _ _ (c .refuse2 .ensures) (c .before .before .before .place-of .ensures) (omega arith))
+    (λ c r z. let at-place-of : tie.After-place-of = search in chunk-full _ r _ _ _ _ (c .refuse2 .ensures) (at-place-of .place-of .ensures) (omega arith))
     (λ c. search needs)
     (λ c r z. rw (← z) (chunk-fits _ r _ _ (omega arith))))

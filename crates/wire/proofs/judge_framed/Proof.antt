@@ -2,7 +2,6 @@
 use borrow.Author.Needs.{needs}
 use Rattle.wire.proofs.judge_framed.Statement.{statement}
 use Rattle.wire.proofs.judge_framed.Tie as tie
-use denote.Ref.{now}
 use Rattle.wire.proofs.Frames.{framed-refused, framed-judged}
 
 pub judge-framed-spec : {M : Type 1} → statement M
@@ -12,5 +11,5 @@ judge-framed-spec =
     (λ c κs. search needs)
     (λ c. search needs)
     (λ c. search needs)
-    (λ c. framed-refused _ _ _ _ (c .before .before .before .judge-frames .ensures .0) _ (c .before .r .given .1))
-    (λ c. framed-judged _ _ _ _ (c .before .before .before .judge-frames .ensures .0) _ _ (c .before .next .given .1)))
+    (λ c. let at-judge-frames : tie.After-judge-frames = search in framed-refused _ _ _ _ (at-judge-frames .judge-frames .ensures .0) _ (c .before .r .given .1))
+    (λ c. let at-judge-frames : tie.After-judge-frames = search in framed-judged _ _ _ _ (at-judge-frames .judge-frames .ensures .0) _ _ (c .before .next .given .1)))

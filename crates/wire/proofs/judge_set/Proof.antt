@@ -15,10 +15,16 @@ judge-set-spec =
     (λ c. search needs)
     (λ c κs. search needs)
     (λ c. search needs)
-    (λ c. omega (arith, number-known (now (c .before .before .before .before .before .args .s)) _ _ (c .before .before .before .number-at .ensures) _ (c .before .kept .given .1)))
+    (λ c.
+    let (at-start, at-number-at) : tie.Start × tie.After-number-at = search in
+    omega (arith, number-known (now (at-start .args .s)) _ _ (at-number-at .number-at .ensures) _ (c .before .kept .given .1)))
     (λ c κs. search needs)
     (λ c. search needs)
     (λ c. search needs)
-    (λ c. set-cut _ _ _ (c .before .before .before .number-at .ensures) (c .before .enum-told .given .1) _ (c .refuse .ensures) _)
-    (λ c. set-refused _ _ _ (c .before .before .before .before .before .before .before .before .number-at .ensures) _ (c .before .before .before .before .before .before .kept .given .1) _ _ _ _ (c .before .before .before .judge-series .ensures .0) _ (c .before .r .given .1))
-    (λ c. set-read _ _ _ (c .before .before .before .before .before .before .before .before .number-at .ensures) _ (c .before .before .before .before .before .before .kept .given .1) _ _ _ _ (c .before .before .before .judge-series .ensures .0) _ _ (c .before .next .given .1)))
+    (λ c. let at-number-at : tie.After-number-at = search in set-cut _ _ _ (at-number-at .number-at .ensures) (c .before .enum-told .given .1) _ (c .refuse .ensures) _)
+    (λ c.
+    let (at-number-at, at-kept, at-judge-series) : tie.After-number-at × tie.After-kept × tie.After-judge-series = search in
+    set-refused _ _ _ (at-number-at .number-at .ensures) _ (at-kept .kept .given .1) _ _ _ _ (at-judge-series .judge-series .ensures .0) _ (c .before .r .given .1))
+    (λ c.
+    let (at-number-at, at-kept, at-judge-series) : tie.After-number-at × tie.After-kept × tie.After-judge-series = search in
+    set-read _ _ _ (at-number-at .number-at .ensures) _ (at-kept .kept .given .1) _ _ _ _ (at-judge-series .judge-series .ensures .0) _ _ (c .before .next .given .1)))

@@ -17,7 +17,13 @@ read-set-spec =
     (λ c κs. search needs)
     (λ c. search needs)
     (λ c. search needs)
-    (λ c. read-refused (now (c .before .before .before .before .before .before .before .before .before .before .args .s)) _ _ _ _ (c .before .before .before .before .slots .ensures) _ (c .before .before .before .judge-set .ensures) _ (c .before .r .given .1))
+    (λ c.
+    let (at-start, at-slots, at-judge-set) : tie.Start × tie.After-slots × tie.After-judge-set = search in
+    read-refused (now (at-start .args .s)) _ _ _ _ (at-slots .slots .ensures) _ (at-judge-set .judge-set .ensures) _ (c .before .r .given .1))
     (λ c. search needs)
     (λ c. search needs)
-    (λ c. read-filled (now (c .before .before .before .before .before .before .before .before .before .before .before .before .before .before .before .before .before .before .args .s)) _ _ _ _ (c .before .before .before .before .before .before .before .before .before .before .before .before .slots .ensures) _ (c .before .before .before .before .before .before .before .before .before .before .before .judge-set .ensures) _ _ (c .before .before .before .before .before .before .before .before .before .value .given .1) _ (c .before .before .before .before .before .before .before .layout .ensures) _ _ _ _ (c .before .before .before .before .fill-entries .ensures .0) (c .before .before .before .before .fill-entries .ensures .1)))
+    (λ c.
+    let (at-start, at-slots, at-judge-set, at-value, at-layout, at-fill-entries) :
+    tie.Start × tie.After-slots × tie.After-judge-set × tie.After-value × tie.After-layout × tie.After-fill-entries = search in
+    read-filled (now (at-start .args .s)) _ _ _ _ (at-slots .slots .ensures) _ (at-judge-set .judge-set .ensures) _ _ (at-value .value .given .1) _ (at-layout .layout .ensures) _ _ _ _
+    (at-fill-entries .fill-entries .ensures .0) (at-fill-entries .fill-entries .ensures .1)))

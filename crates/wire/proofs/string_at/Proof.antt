@@ -12,5 +12,5 @@ string-at-spec =
     (λ c κs. search needs)
     (λ c. search needs)
     (λ c. search needs)
-    (λ c. as-told judgedRead (c .before .start .given .1) (c .before .before .before .string-at .ensures))
-    (λ c. as-told judgedRead (c .before .r .given .1) (c .before .before .before .string-at .ensures)))
+    (λ c. let at-string-at : tie.After-string-at = search in as-told judgedRead (c .before .start .given .1) (at-string-at .string-at .ensures))
+    (λ c. let at-string-at : tie.After-string-at = search in as-told judgedRead (c .before .r .given .1) (at-string-at .string-at .ensures)))

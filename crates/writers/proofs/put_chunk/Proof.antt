@@ -9,8 +9,9 @@ use Rattle.writers.proofs.Framed.{chunk-put}
 
 returns : tie.Need-returns
 returns c =
-    let a = c .before .before .before .before .before .before .before .args in
-    chunk-put _ _ (a .c .now) _ (a .from) (a .to - a .from) (omega arith) (c .before .before .put-counted .ensures)
+    let (at-start, at-put-counted) : tie.Start × tie.After-put-counted = search in
+    let a = at-start .args in
+    chunk-put _ _ (a .c .now) _ (a .from) (a .to - a .from) (omega arith) (at-put-counted .put-counted .ensures)
 
 pub put-chunk-spec : {M : Type 1} → statement M
 put-chunk-spec =

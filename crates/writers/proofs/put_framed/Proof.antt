@@ -16,25 +16,29 @@ Inv-loop out₀ c at₀ i₀ out at i = Filling out₀ 0 (framedBytes c) out at 
 abbrev μ-loop : tie.MeasureT-loop
 μ-loop out₀ c at₀ i₀ out at i = length c - i
 
-roomy : (c : tie.After-least Inv-loop μ-loop) → c .before .before .loop .at + 8 + c .least .result ≤ length (c .before .before .loop .out)
-roomy c =
-    let l = c .before .before .loop in
-    framed-room (c .before .before .before .before .before .args .c .now) (l .i) _ (c .before .loop-test .taken) (c .least .ensures) _ _ _ (l .inv .0)
+abbrev At : (tie.InvT-loop → tie.MeasureT-loop → Type 0) → Type 0
+At place = place Inv-loop μ-loop
 
 loop-holds : tie.Need-loop-holds Inv-loop μ-loop
 loop-holds c =
-    let a = c .before .before .args in
+    let at-start : At tie.Start = search in
+    let a = at-start .args in
     (filling-start (a .out .now) 0 (framedBytes (a .c .now)) (omega arith), search needs)
 
 loop-again : tie.Need-loop-again Inv-loop μ-loop
 loop-again c =
-    let l = c .before .before .before .before .before .before .loop in
-    (framed-turn (c .before .before .before .before .before .before .before .before .before .args .c .now) (l .i) _ (c .before .before .before .before .before .loop-test .taken) (c .before .before .before .before .least .ensures) _ _ _ (l .inv .0) _ (l .i + c .before .before .before .before .least .result - l .i) (omega arith) (c .before .before .put-chunk .ensures), omega arith)
+    let (at-start, at-loop, at-in-loop, at-least, at-put-chunk) : At tie.Start × At tie.At-loop × At tie.In-loop × At tie.After-least × At tie.After-put-chunk = search in
+    let l = at-loop .loop in (
+      framed-turn (at-start .args .c .now) (l .i) _ (at-in-loop .loop-test .taken) (at-least .least .ensures) _ _ _ (l .inv .0) _ (l .i + at-least .least .result - l .i) (omega arith)
+          (at-put-chunk .put-chunk .ensures),
+      omega arith,
+    )
 
 returns : tie.Need-returns Inv-loop μ-loop
 returns c =
-    let l = c .before .before .before .before .before .loop in
-    framed-end (c .before .before .before .before .before .before .before .before .args .c .now) (l .i) (c .before .before .before .before .loop-test .left) _ _ _ (l .inv .0) _ (c .before .before .put-number .ensures)
+    let (at-start, at-loop, at-end, at-put-number) : At tie.Start × At tie.At-loop × At tie.After-loop × At tie.After-put-number = search in
+    let l = at-loop .loop in
+    framed-end (at-start .args .c .now) (l .i) (at-end .loop-test .left) _ _ _ (l .inv .0) _ (at-put-number .put-number .ensures)
 
 pub put-framed-spec : {M : Type 1} → statement M
 put-framed-spec =
@@ -47,8 +51,14 @@ put-framed-spec =
     (λ c κs. search needs)
     (λ c. search needs)
     (λ c κs. (search needs, omega arith))
-    (λ c. omega (arith, roomy (c .before .before .before .before)))
-    (λ c. omega (arith, roomy (c .before .before .before .before)))
+    (λ c.
+    let (at-loop, at-least) : At tie.At-loop × At tie.After-least = search in
+    let room : at-loop .loop .at + 8 + at-least .least .result ≤ length (at-loop .loop .out) = search framed-room in
+    omega arith)
+    (λ c.
+    let (at-loop, at-least) : At tie.At-loop × At tie.After-least = search in
+    let room : at-loop .loop .at + 8 + at-least .least .result ≤ length (at-loop .loop .out) = search framed-room in
+    omega arith)
     (λ c. search needs)
     loop-again
     (λ c κs. search needs)

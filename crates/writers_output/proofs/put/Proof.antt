@@ -9,18 +9,18 @@ use denote.Ref.{now}
 use lib.ListN.{length}
 use Rattle.writers_output.proofs.Laws.{is-room, no-room, placed-not, copied}
 
-room : (c : tie.Then1) → c .before .before .before .before .args .at + length (c .before .before .before .before .args .c .now) ≤ length (c .before .before .before .before .args .out .now)
-room c = is-room _ _ _ (c .before .has-room .ensures) (c .if1 .taken)
-
 pub put-spec : {M : Type 1} → statement M
 put-spec =
     tie.close
     (tie.spec
     (λ c κs. search needs)
-    (λ c. omega (arith, room c))
-    (λ c. omega (arith, room c))
+    (λ c. let at-start : tie.Start = search in let room : at-start .args .at + length (at-start .args .c .now) ≤ length (at-start .args .out .now) = search is-room in omega arith)
+    (λ c. let at-start : tie.Start = search in let room : at-start .args .at + length (at-start .args .c .now) ≤ length (at-start .args .out .now) = search is-room in omega arith)
     (λ c. search needs)
-    (λ c κs. omega (arith, room (c .before)))
+    (λ c κs. let at-start : tie.Start = search in let room : at-start .args .at + length (at-start .args .c .now) ≤ length (at-start .args .out .now) = search is-room in omega arith)
     (λ c. search needs)
-    (λ c. copied (c .before .before .before .before .before .before .before .before .args .out .now) (c .before .before .before .before .before .before .before .before .args .c .now) _ (c .before .before .before .before .before .before .before .before .args .at) (room (c .before .before .before .before)) (c .before .before .copy .ensures .1))
+    (λ c.
+    let (at-start, at-copy) : tie.Start × tie.After-copy = search in
+    let room : at-start .args .at + length (at-start .args .c .now) ≤ length (at-start .args .out .now) = search is-room in
+    copied (at-start .args .out .now) (at-start .args .c .now) _ (at-start .args .at) room (at-copy .copy .ensures .1))
     (λ c. placed-not _ _ _ _ refl (no-room _ _ _ (c .before .has-room .ensures) (c .if1 .left))))

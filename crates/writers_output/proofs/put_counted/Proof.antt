@@ -9,9 +9,6 @@ use denote.Ref.{now}
 use lib.ListN.{length}
 use Rattle.writers_output.proofs.Laws.{is-room, no-room, placed-not, length-counted, counted-put}
 
-room : (c : tie.Then1) → c .before .before .before .before .args .at + (8 + length (c .before .before .before .before .args .c .now)) ≤ length (c .before .before .before .before .args .out .now)
-room c = is-room _ _ _ (c .before .has-room .ensures) (c .if1 .taken)
-
 pub put-counted-spec : {M : Type 1} → statement M
 put-counted-spec =
     tie.close
@@ -19,8 +16,11 @@ put-counted-spec =
     (λ c. search needs)
     (λ c κs. search needs)
     (λ c κs. search needs)
-    (λ c. omega (arith, room (c .before .before .before .before .before)))
+    (λ c. let at-start : tie.Start = search in let room : at-start .args .at + (8 + length (at-start .args .c .now)) ≤ length (at-start .args .out .now) = search is-room in omega arith)
     (λ c κs. search needs)
     (λ c. search needs)
-    (λ c. counted-put _ _ _ (c .before .before .before .before .before .before .before .before .before .before .before .before .args .c .now) _ (room (c .before .before .before .before .before .before .before .before)) (c .before .before .before .before .before .before .put-number .ensures) (c .before .before .put .ensures))
-    (λ c. placed-not _ _ _ _ (sym (length-counted (c .before .before .before .before .args .c .now))) (no-room _ _ _ (c .before .has-room .ensures) (c .if1 .left))))
+    (λ c.
+    let (at-start, at-put-number, at-put) : tie.Start × tie.After-put-number × tie.After-put = search in
+    let room : at-start .args .at + (8 + length (at-start .args .c .now)) ≤ length (at-start .args .out .now) = search is-room in
+    counted-put _ _ _ (at-start .args .c .now) _ room (at-put-number .put-number .ensures) (at-put .put .ensures))
+    (λ c. let at-start : tie.Start = search in placed-not _ _ _ _ (sym (length-counted (at-start .args .c .now))) (no-room _ _ _ (c .before .has-room .ensures) (c .if1 .left))))

@@ -10,18 +10,18 @@ use lib.ListN.{length}
 use Rattle.layouts.proofs.Little.{length-number}
 use Rattle.writers_output.proofs.Laws.{is-room, no-room, placed-not, numbered}
 
-room : (c : tie.Then1) → c .before .before .before .args .at + 8 ≤ length (c .before .before .before .args .out .now)
-room c = is-room _ _ _ (c .before .has-room .ensures) (c .if1 .taken)
-
 pub put-number-spec : {M : Type 1} → statement M
 put-number-spec =
     tie.close
     (tie.spec
     (λ c κs. search needs)
-    (λ c. omega (arith, room c))
-    (λ c. omega (arith, room c))
+    (λ c. let at-start : tie.Start = search in let room : at-start .args .at + 8 ≤ length (at-start .args .out .now) = search is-room in omega arith)
+    (λ c. let at-start : tie.Start = search in let room : at-start .args .at + 8 ≤ length (at-start .args .out .now) = search is-room in omega arith)
     (λ c. search needs)
     (λ c κs. search needs)
     (λ c. search needs)
-    (λ c. numbered _ _ _ _ (room (c .before .before .before .before)) (c .before .before .write .ensures .1))
-    (λ c. placed-not _ _ _ _ (sym (length-number (c .before .before .before .args .x))) (no-room _ _ _ (c .before .has-room .ensures) (c .if1 .left))))
+    (λ c.
+    let (at-start, at-write) : tie.Start × tie.After-write = search in
+    let room : at-start .args .at + 8 ≤ length (at-start .args .out .now) = search is-room in
+    numbered _ _ _ _ room (at-write .write .ensures .1))
+    (λ c. let at-start : tie.Start = search in placed-not _ _ _ _ (sym (length-number (at-start .args .x))) (no-room _ _ _ (c .before .has-room .ensures) (c .if1 .left))))

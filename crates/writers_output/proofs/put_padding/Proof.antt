@@ -11,7 +11,10 @@ put-padding-spec =
     (tie.spec
     (λ c κs. search needs)
     (λ c. search needs)
-    (λ c. zeros-length _ (c .before .before .padding .ensures .1))
+    (λ c. let at-padding : tie.After-padding = search in zeros-length _ (at-padding .padding .ensures .1))
     (λ c κs. search needs)
     (λ c. search needs)
-    (λ c. zeros-put (c .before .before .before .before .before .before .before .args .out .now) _ (c .before .before .before .before .before .before .before .args .at) (c .before .before .before .before .before .padding .result) (c .before .before .before .before .before .before .before .args .n) (c .before .before .before .before .before .padding .ensures .0) (c .before .before .before .before .before .padding .ensures .1) (c .before .before .put .ensures)))
+    (λ c.
+    let (at-start, at-padding, at-put) : tie.Start × tie.After-padding × tie.After-put = search in
+    zeros-put (at-start .args .out .now) _ (at-start .args .at) (at-padding .padding .result) (at-start .args .n) (at-padding .padding .ensures .0) (at-padding .padding .ensures .1)
+    (at-put .put .ensures)))

@@ -13,4 +13,4 @@ string-length-spec =
     (λ c. search needs)
     (λ c κs. search needs)
     (λ c. search needs)
-    (λ c. omega (arith, length-string (c .before .before .args .c .now))))
+    (λ c. let at-start : tie.Start = search in omega (arith, length-string (at-start .args .c .now))))

@@ -12,10 +12,10 @@ judge-entry-spec =
     (tie.spec
     (λ c κs. search needs)
     (λ c. search needs)
-    (λ c. omega (arith, inside _ _ _ _ (c .before .before .before .find .ensures) _ _ (c .before .start .given .1) .within))
+    (λ c. let at-find : tie.After-find = search in omega (arith, inside _ _ _ _ (at-find .find .ensures) _ _ (c .before .start .given .1) .within))
     (λ c. search needs)
     (λ c. search needs)
-    (λ c. omega (arith, inside _ _ _ _ (c .before .before .before .find .ensures) _ _ (c .before .start .given .1) .within))
+    (λ c. let at-find : tie.After-find = search in omega (arith, inside _ _ _ _ (at-find .find .ensures) _ _ (c .before .start .given .1) .within))
     (λ c κs. search needs)
     (λ c. search needs)
     (λ c. search entry-taken)

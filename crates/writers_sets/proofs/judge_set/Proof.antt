@@ -14,6 +14,9 @@ Inv-loop s words bytes count room total₀ i₀ total i = Judging s (numbersIn w
 abbrev μ-loop : tie.MeasureT-loop
 μ-loop s words bytes count room total₀ i₀ total i = count - i
 
+abbrev At : (tie.InvT-loop → tie.MeasureT-loop → Type 0) → Type 0
+At place = place Inv-loop μ-loop
+
 pub judge-set-spec : {M : Type 1} → statement M
 judge-set-spec =
     tie.close
@@ -22,7 +25,7 @@ judge-set-spec =
     μ-loop
     (λ c κs. search needs)
     (λ c κs. search needs)
-    (λ c. judging-many _ _ _ _ _ (c .before .before .slots .ensures ∙ slots-in _ _) (c .before .if1 .taken) _ (c .refuse .ensures))
+    (λ c. let at-slots : At tie.After-slots = search in judging-many _ _ _ _ _ (at-slots .slots .ensures ∙ slots-in _ _) (c .before .if1 .taken) _ (c .refuse .ensures))
     (λ c. judging-start _ _ _ _ _ (c .before .slots .ensures ∙ slots-in _ _) (c .if1 .left))
     (λ c κs. search needs)
     (λ c. search needs)

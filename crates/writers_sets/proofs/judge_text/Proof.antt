@@ -12,4 +12,4 @@ judge-text-spec =
     (λ c κs. search needs)
     (λ c. search text-fine)
     (λ c κs. search needs)
-    (λ c. text-bad (c .before .before .before .before .args .i) _ _ (c .before .before .is-text .ensures) (c .before .if1 .left) _ (c .refuse .ensures)))
+    (λ c. let (at-start, at-is-text) : tie.Start × tie.After-is-text = search in text-bad (at-start .args .i) _ _ (at-is-text .is-text .ensures) (c .before .if1 .left) _ (c .refuse .ensures)))

@@ -17,6 +17,8 @@ put-entry-spec =
     (λ c κs. search needs)
     (λ c κs. search needs)
     (λ c κs. search needs)
-    (λ c. omega (arith, ap (λ (d : List ℕ). length (stringBytes d)) (c .before .before .before .before .before .part .ensures .0)))
+    (λ c. let at-part : tie.After-part = search in omega (arith, ap (λ (d : List ℕ). length (stringBytes d)) (at-part .part .ensures .0)))
     (λ c. search needs)
-    (λ c. entry-put _ _ _ _ _ _ (c .before .before .before .before .before .part .ensures .0) (c .string-length .ensures) (c .before .before .before .put-string .ensures)))
+    (λ c.
+    let (at-part, at-put-string) : tie.After-part × tie.After-put-string = search in
+    entry-put _ _ _ _ _ _ (at-part .part .ensures .0) (c .string-length .ensures) (at-put-string .put-string .ensures)))

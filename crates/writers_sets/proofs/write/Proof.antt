@@ -11,7 +11,9 @@ write-spec =
     (λ c κs. search needs)
     (λ c. search needs)
     (λ c. search needs)
-    (λ c. set-refused _ _ _ _ _ (c .before .before .judge-set .ensures) _ (c .enum-told2 .given .1))
+    (λ c. let at-judge-set : tie.After-judge-set = search in set-refused _ _ _ _ _ (at-judge-set .judge-set .ensures) _ (c .enum-told2 .given .1))
     (λ c κs. search set-held)
     (λ c. search needs)
-    (λ c. set-done _ _ _ _ _ (c .before .before .before .before .before .before .judge-set .ensures) _ (c .before .before .before .before .enum-told .given .1) _ (c .before .before .put-set .ensures)))
+    (λ c.
+    let (at-judge-set, at-enum-told, at-put-set) : tie.After-judge-set × tie.After-enum-told × tie.After-put-set = search in
+    set-done _ _ _ _ _ (at-judge-set .judge-set .ensures) _ (at-enum-told .enum-told .given .1) _ (at-put-set .put-set .ensures)))

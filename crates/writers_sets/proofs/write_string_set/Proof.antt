@@ -11,4 +11,4 @@ write-string-set-spec =
     (λ c. search needs)
     (λ c κs. search needs)
     (λ c. search needs)
-    (λ c. by-words _ _ _ _ _ _ (c .before .before .write .ensures)))
+    (λ c. let at-write : tie.After-write = search in by-words _ _ _ _ _ _ (at-write .write .ensures)))

@@ -11,4 +11,4 @@ write-string-set-bytes-spec =
     (λ c. search needs)
     (λ c κs. search needs)
     (λ c. search needs)
-    (λ c. by-bytes _ _ _ _ _ _ (c .before .before .write .ensures)))
+    (λ c. let at-write : tie.After-write = search in by-bytes _ _ _ _ _ _ (at-write .write .ensures)))

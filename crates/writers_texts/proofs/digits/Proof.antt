@@ -18,6 +18,9 @@ Inv-loop text₀ n x₀ i₀ text x i = (digits i x ++ drop i text ≡ decimal n
 abbrev μ-loop : tie.MeasureT-loop
 μ-loop text₀ n x₀ i₀ text x i = i
 
+abbrev At : (tie.InvT-loop → tie.MeasureT-loop → Type 0) → Type 0
+At place = place Inv-loop μ-loop
+
 loop-holds : tie.Need-loop-holds Inv-loop μ-loop
 loop-holds c =
     let a = c .args in
@@ -25,12 +28,14 @@ loop-holds c =
 
 returns : tie.Need-returns Inv-loop μ-loop
 returns c =
-    let l = c .before .before .loop in
+    let at-loop : At tie.At-loop = search in
+    let l = at-loop .loop in
     (search needs, search needs, digits-last (l .text) (l .x) _ (l .i) (c .before .loop-test .taken) (omega arith) (c .if1 .taken) (l .inv .0))
 
 loop-again : tie.Need-loop-again Inv-loop μ-loop
 loop-again c =
-    let l = c .before .before .loop in
+    let at-loop : At tie.At-loop = search in
+    let l = at-loop .loop in
     (digits-turn (l .text) (l .x) _ (l .i) (c .before .loop-test .taken) (omega arith) (c .if1 .left) (l .inv .0), search needs, search needs)
 
 returns-2 : tie.Need-returns-2 Inv-loop μ-loop

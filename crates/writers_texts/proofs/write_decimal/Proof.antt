@@ -9,9 +9,10 @@ use Rattle.writers_texts.proofs.Decimal.{decimal-part}
 
 returns : tie.Need-returns
 returns c =
-    let a = c .before .before .before .before .before .before .before .before .before .before .args in
-    let d = c .before .before .before .before .before .before .digits in
-    same-output _ _ _ _ _ (decimal-part (d .last .0) (d .result) (a .n) (d .ensures .1) (d .ensures .2) (a .b .now)) (c .before .before .write-two .ensures)
+    let (at-start, at-digits, at-write-two) : tie.Start × tie.After-digits × tie.After-write-two = search in
+    let a = at-start .args in
+    let d = at-digits .digits in
+    same-output _ _ _ _ _ (decimal-part (d .last .0) (d .result) (a .n) (d .ensures .1) (d .ensures .2) (a .b .now)) (at-write-two .write-two .ensures)
 
 pub write-decimal-spec : {M : Type 1} → statement M
 write-decimal-spec =
@@ -20,7 +21,7 @@ write-decimal-spec =
     (λ c κs. search needs)
     (λ c. search needs)
     (λ c. search needs)
-    (λ c. omega (arith, c .before .before .digits .ensures .1))
+    (λ c. let at-digits : tie.After-digits = search in omega (arith, at-digits .digits .ensures .1))
     (λ c κs. search needs)
     (λ c. search needs)
     returns)

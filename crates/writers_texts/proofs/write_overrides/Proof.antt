@@ -6,7 +6,7 @@ use Rattle.layouts.specs.Writers.{overridesText}
 
 returns : tie.Need-returns
 unfolding overridesText
-returns c = c .before .before .write-decimal .ensures
+returns c = let at-write-decimal : tie.After-write-decimal = search in at-write-decimal .write-decimal .ensures
 
 pub write-overrides-spec : {M : Type 1} → statement M
 write-overrides-spec =

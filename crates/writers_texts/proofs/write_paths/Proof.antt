@@ -6,7 +6,7 @@ use Rattle.layouts.specs.Writers.{pathsText}
 
 returns : tie.Need-returns
 unfolding pathsText
-returns c = c .before .before .write-decimal .ensures
+returns c = let at-write-decimal : tie.After-write-decimal = search in at-write-decimal .write-decimal .ensures
 
 pub write-paths-spec : {M : Type 1} → statement M
 write-paths-spec =

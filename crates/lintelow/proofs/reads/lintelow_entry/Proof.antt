@@ -15,14 +15,15 @@ use Rattle.lintelow_answers.proofs.Guard.{told-number, told-block}
 
 returns : tie.Need-returns
 returns c =
-    let a = c .before .before .before .before .before .before .before .before .before .before .args in
+    let (at-start, at-find, at-entry, at-put) : tie.Start × tie.After-find × tie.After-entry × tie.After-put = search in
+    let a = at-start .args in
     let r = answerAs (entryRead (now (a .bytes)) (entriesIn (now (a .entries))) (a .index)) in
     let e =
-    c .before .before .before .entry .ensures ∙
-    ap (λ (x : Result (ℕ × ℕ)). answerAs (entryTold x)) (c .before .before .before .before .before .find .ensures) ∙
+    at-entry .entry .ensures ∙
+    ap (λ (x : Result (ℕ × ℕ)). answerAs (entryTold x)) (at-find .find .ensures) ∙
     ap (λ (es : List ℕ). answerAs (entryRead (now (a .bytes)) es (a .index))) (with-bytes (now (a .entries)))
     in
-    (told-number (now (a .block)) r _ _ e (c .before .before .put .ensures .0), told-block (now (a .block)) r _ _ e (c .before .before .put .ensures .1))
+    (told-number (now (a .block)) r _ _ e (at-put .put .ensures .0), told-block (now (a .block)) r _ _ e (at-put .put .ensures .1))
 
 pub lintelow-entry-spec : {M : Type 1} → statement M
 lintelow-entry-spec =

@@ -12,7 +12,12 @@ use Rattle.lintelow_answers.specs.Answers.{yesNo}
 use Rattle.lintelow_answers.proofs.Guard.{told-number, told-block}
 
 returns : tie.Need-returns
-returns c = let e = c .before .before .before .yes-no .ensures ∙ ap (λ (x : Bool). answerAs (yesNo (ok x))) (c .before .before .before .before .before .extract-store-path .ensures) in (told-number (now (c .before .before .before .before .before .before .before .before .args .block)) (answerAs (yesNo (ok (isStorePath (now (c .before .before .before .before .before .before .before .before .args .c)))))) _ _ e (c .before .before .put .ensures .0), told-block (now (c .before .before .before .before .before .before .before .before .args .block)) (answerAs (yesNo (ok (isStorePath (now (c .before .before .before .before .before .before .before .before .args .c)))))) _ _ e (c .before .before .put .ensures .1))
+returns c =
+    let (at-start, at-extract-store-path, at-yes-no, at-put) : tie.Start × tie.After-extract-store-path × tie.After-yes-no × tie.After-put = search in
+    let e = at-yes-no .yes-no .ensures ∙ ap (λ (x : Bool). answerAs (yesNo (ok x))) (at-extract-store-path .extract-store-path .ensures) in (
+      told-number (now (at-start .args .block)) (answerAs (yesNo (ok (isStorePath (now (at-start .args .c)))))) _ _ e (at-put .put .ensures .0),
+      told-block (now (at-start .args .block)) (answerAs (yesNo (ok (isStorePath (now (at-start .args .c)))))) _ _ e (at-put .put .ensures .1),
+    )
 
 pub lintelow-extract-store-path-spec : {M : Type 1} → statement M
 lintelow-extract-store-path-spec =

@@ -12,7 +12,12 @@ use Rattle.lintelow_answers.specs.Answers.{yesNo}
 use Rattle.lintelow_answers.proofs.Guard.{told-number, told-block}
 
 returns : tie.Need-returns
-returns c = let e = c .before .before .before .framed .ensures ∙ ap (λ (x : Result Bool). answerAs (yesNo x)) (c .before .before .before .before .before .op-has-client-framed-data .ensures) in (told-number (now (c .before .before .before .before .before .before .before .args .block)) (answerAs (yesNo (opHasClientFramedData (c .before .before .before .before .before .before .before .args .op)))) _ _ e (c .before .before .put .ensures .0), told-block (now (c .before .before .before .before .before .before .before .args .block)) (answerAs (yesNo (opHasClientFramedData (c .before .before .before .before .before .before .before .args .op)))) _ _ e (c .before .before .put .ensures .1))
+returns c =
+    let (at-start, at-op-has-client-framed-data, at-framed, at-put) : tie.Start × tie.After-op-has-client-framed-data × tie.After-framed × tie.After-put = search in
+    let e = at-framed .framed .ensures ∙ ap (λ (x : Result Bool). answerAs (yesNo x)) (at-op-has-client-framed-data .op-has-client-framed-data .ensures) in (
+      told-number (now (at-start .args .block)) (answerAs (yesNo (opHasClientFramedData (at-start .args .op)))) _ _ e (at-put .put .ensures .0),
+      told-block (now (at-start .args .block)) (answerAs (yesNo (opHasClientFramedData (at-start .args .op)))) _ _ e (at-put .put .ensures .1),
+    )
 
 pub lintelow-op-has-client-framed-data-spec : {M : Type 1} → statement M
 lintelow-op-has-client-framed-data-spec =

@@ -11,7 +11,12 @@ use Rattle.lintelow_answers.specs.Answers.{peekedAt}
 use Rattle.lintelow_answers.proofs.Guard.{told-number, told-block}
 
 returns : tie.Need-returns
-returns c = let e = c .before .before .before .peek .ensures ∙ ap (λ (x : Num). answerAs (peekedAt (c .before .before .before .before .before .before .before .before .args .at) x)) (c .before .before .before .before .before .peek-u64 .ensures) in (told-number (now (c .before .before .before .before .before .before .before .before .args .block)) (answerAs (peekedAt (c .before .before .before .before .before .before .before .before .args .at) (peekNumber (now (c .before .before .before .before .before .before .before .before .args .s)) (c .before .before .before .before .before .before .before .before .args .at)))) _ _ e (c .before .before .put .ensures .0), told-block (now (c .before .before .before .before .before .before .before .before .args .block)) (answerAs (peekedAt (c .before .before .before .before .before .before .before .before .args .at) (peekNumber (now (c .before .before .before .before .before .before .before .before .args .s)) (c .before .before .before .before .before .before .before .before .args .at)))) _ _ e (c .before .before .put .ensures .1))
+returns c =
+    let (at-start, at-peek-u64, at-peek, at-put) : tie.Start × tie.After-peek-u64 × tie.After-peek × tie.After-put = search in
+    let e = at-peek .peek .ensures ∙ ap (λ (x : Num). answerAs (peekedAt (at-start .args .at) x)) (at-peek-u64 .peek-u64 .ensures) in (
+      told-number (now (at-start .args .block)) (answerAs (peekedAt (at-start .args .at) (peekNumber (now (at-start .args .s)) (at-start .args .at)))) _ _ e (at-put .put .ensures .0),
+      told-block (now (at-start .args .block)) (answerAs (peekedAt (at-start .args .at) (peekNumber (now (at-start .args .s)) (at-start .args .at)))) _ _ e (at-put .put .ensures .1),
+    )
 
 pub lintelow-peek-u64-spec : {M : Type 1} → statement M
 lintelow-peek-u64-spec =

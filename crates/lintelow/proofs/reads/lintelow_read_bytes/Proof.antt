@@ -13,11 +13,12 @@ use Rattle.lintelow_answers.proofs.Guard.{told-number, told-block}
 
 returns : tie.Need-returns
 returns c =
-    let a = c .before .before .before .before .before .before .before .before .args in
-    let r = c .before .before .before .before .before .read-bytes .ensures in
-    let e = c .before .before .before .string .ensures ∙ ap (λ (x : Result Span). answerAs (stringRead x)) (r .0) in
+    let (at-start, at-read-bytes, at-string, at-put) : tie.Start × tie.After-read-bytes × tie.After-string × tie.After-put = search in
+    let a = at-start .args in
+    let r = at-read-bytes .read-bytes .ensures in
+    let e = at-string .string .ensures ∙ ap (λ (x : Result Span). answerAs (stringRead x)) (r .0) in
     let o = answerAs (stringRead (readBytes (now (a .s)) (a .at))) in
-    (told-number (now (a .block)) o _ _ e (c .before .before .put .ensures .0), (told-block (now (a .block)) o _ _ e (c .before .before .put .ensures .1), r .1))
+    (told-number (now (a .block)) o _ _ e (at-put .put .ensures .0), (told-block (now (a .block)) o _ _ e (at-put .put .ensures .1), r .1))
 
 pub lintelow-read-bytes-spec : {M : Type 1} → statement M
 lintelow-read-bytes-spec =

@@ -14,10 +14,14 @@ pub lintelow-read-framed-spec : {M : Type 1} → statement M
 lintelow-read-framed-spec =
     tie.close
     (tie.spec
-    (λ c. called-short (λ x. answerAs (ended x)) (now (c .before .before .before .before .args .block)) _ _ _ (c .if1 .taken))
+    (λ c. let at-start : tie.Start = search in called-short (λ x. answerAs (ended x)) (now (at-start .args .block)) _ _ _ (c .if1 .taken))
     (λ c κs. search needs)
     (λ c κs. search needs)
     (λ c κs. search needs)
     (λ c. search needs)
     (λ c. search needs)
-    (λ c. called-long (λ x. answerAs (ended x)) (now (c .before .before .before .before .before .before .before .before .before .before .before .before .before .args .block)) _ _ _ (c .before .before .before .before .before .before .before .before .before .if1 .left) _ (c .before .before .before .total .ensures ∙ ap (λ (x : Result Ended). answerAs (ended x)) (c .before .before .before .before .before .before .before .read-framed .ensures .0)) _ _ (c .before .before .put .ensures) _ (c .before .before .before .before .before .before .before .read-framed .ensures .1)))
+    (λ c.
+    let (at-start, at-else1, at-read-framed, at-total, at-put) : tie.Start × tie.Else1 × tie.After-read-framed × tie.After-total × tie.After-put = search in
+    called-long (λ x. answerAs (ended x)) (now (at-start .args .block)) _ _ _ (at-else1 .if1 .left) _
+    (at-total .total .ensures ∙ ap (λ (x : Result Ended). answerAs (ended x)) (at-read-framed .read-framed .ensures .0)) _ _ (at-put .put .ensures) _
+    (at-read-framed .read-framed .ensures .1)))

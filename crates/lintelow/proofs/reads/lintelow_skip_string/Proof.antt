@@ -12,7 +12,12 @@ use Rattle.lintelow_answers.specs.Answers.{passedTo}
 use Rattle.lintelow_answers.proofs.Guard.{told-number, told-block}
 
 returns : tie.Need-returns
-returns c = let e = c .before .before .before .passed .ensures ∙ ap (λ (x : Result ℕ). answerAs (passedTo x)) (c .before .before .before .before .before .skip-string .ensures) in (told-number (now (c .before .before .before .before .before .before .before .before .args .block)) (answerAs (passedTo (skipString (now (c .before .before .before .before .before .before .before .before .args .s)) (c .before .before .before .before .before .before .before .before .args .at)))) _ _ e (c .before .before .put .ensures .0), told-block (now (c .before .before .before .before .before .before .before .before .args .block)) (answerAs (passedTo (skipString (now (c .before .before .before .before .before .before .before .before .args .s)) (c .before .before .before .before .before .before .before .before .args .at)))) _ _ e (c .before .before .put .ensures .1))
+returns c =
+    let (at-start, at-skip-string, at-passed, at-put) : tie.Start × tie.After-skip-string × tie.After-passed × tie.After-put = search in
+    let e = at-passed .passed .ensures ∙ ap (λ (x : Result ℕ). answerAs (passedTo x)) (at-skip-string .skip-string .ensures) in (
+      told-number (now (at-start .args .block)) (answerAs (passedTo (skipString (now (at-start .args .s)) (at-start .args .at)))) _ _ e (at-put .put .ensures .0),
+      told-block (now (at-start .args .block)) (answerAs (passedTo (skipString (now (at-start .args .s)) (at-start .args .at)))) _ _ e (at-put .put .ensures .1),
+    )
 
 pub lintelow-skip-string-spec : {M : Type 1} → statement M
 lintelow-skip-string-spec =

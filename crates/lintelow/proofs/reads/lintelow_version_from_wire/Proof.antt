@@ -10,7 +10,12 @@ use Rattle.lintelow_answers.specs.Answers.{versionTold}
 use Rattle.lintelow_answers.proofs.Guard.{told-number, told-block}
 
 returns : tie.Need-returns
-returns c = let e = c .before .before .before .version .ensures ∙ ap (λ (x : Version). answerAs (versionTold x)) (c .before .before .before .before .before .from-wire .ensures) in (told-number (now (c .before .before .before .before .before .before .before .args .block)) (answerAs (versionTold (fromWire (c .before .before .before .before .before .before .before .args .wire)))) _ _ e (c .before .before .put .ensures .0), told-block (now (c .before .before .before .before .before .before .before .args .block)) (answerAs (versionTold (fromWire (c .before .before .before .before .before .before .before .args .wire)))) _ _ e (c .before .before .put .ensures .1))
+returns c =
+    let (at-start, at-from-wire, at-version, at-put) : tie.Start × tie.After-from-wire × tie.After-version × tie.After-put = search in
+    let e = at-version .version .ensures ∙ ap (λ (x : Version). answerAs (versionTold x)) (at-from-wire .from-wire .ensures) in (
+      told-number (now (at-start .args .block)) (answerAs (versionTold (fromWire (at-start .args .wire)))) _ _ e (at-put .put .ensures .0),
+      told-block (now (at-start .args .block)) (answerAs (versionTold (fromWire (at-start .args .wire)))) _ _ e (at-put .put .ensures .1),
+    )
 
 pub lintelow-version-from-wire-spec : {M : Type 1} → statement M
 lintelow-version-from-wire-spec =

@@ -8,5 +8,5 @@ pub at-least-spec : {M : Type 1} → statement M
 at-least-spec =
     tie.close
     (tie.spec
-    (λ c. sym (same-major _ _ (c .before .before .if1 .taken)))
-    (λ c. sym (other-major _ _ (c .before .before .if1 .left))))
+    (λ c. let at-then1 : tie.Then1 = search in sym (same-major _ _ (at-then1 .if1 .taken)))
+    (λ c. let at-else1 : tie.Else1 = search in sym (other-major _ _ (at-else1 .if1 .left))))

@@ -12,5 +12,5 @@ peek-u64-spec =
     (λ c κs. search needs)
     (λ c. search needs)
     (λ c. search needs)
-    (λ c. as-told numRead (c .before .n .given .1) (c .before .before .before .number-at .ensures))
-    (λ c. as-told numRead (c .enum-told .given .1) (c .before .before .number-at .ensures)))
+    (λ c. let at-number-at : tie.After-number-at = search in as-told numRead (c .before .n .given .1) (at-number-at .number-at .ensures))
+    (λ c. let at-number-at : tie.After-number-at = search in as-told numRead (c .enum-told .given .1) (at-number-at .number-at .ensures)))

@@ -2,7 +2,6 @@
 use borrow.Author.Needs.{needs}
 use Rattle.wire.proofs.Cursor.read_framed.Statement.{statement}
 use Rattle.wire.proofs.Cursor.read_framed.Tie as tie
-use denote.Ref.{now}
 use Rattle.wire.proofs.Frames.{read-refused, read-joined}
 
 pub read-framed-spec : {M : Type 1} → statement M
@@ -14,6 +13,8 @@ read-framed-spec =
     (λ c. search needs)
     (λ c κs. search needs)
     (λ c κs. search needs)
-    (λ c. read-refused _ _ _ _ (c .before .before .before .judge-framed .ensures) _ (c .before .r .given .1))
+    (λ c. let at-judge-framed : tie.After-judge-framed = search in read-refused _ _ _ _ (at-judge-framed .judge-framed .ensures) _ (c .before .r .given .1))
     (λ c. search needs)
-    (λ c. read-joined _ _ _ _ (c .before .before .before .before .before .before .before .before .judge-framed .ensures) _ _ (c .before .before .before .before .before .before .value .given .1) _ (c .before .before .before .before .layout .ensures) _ (c .before .before .fill-payload .ensures)))
+    (λ c.
+    let (at-judge-framed, at-value, at-layout, at-fill-payload) : tie.After-judge-framed × tie.After-value × tie.After-layout × tie.After-fill-payload = search in
+    read-joined _ _ _ _ (at-judge-framed .judge-framed .ensures) _ _ (at-value .value .given .1) _ (at-layout .layout .ensures) _ (at-fill-payload .fill-payload .ensures)))

@@ -13,8 +13,10 @@ read-u32-spec =
     (tie.spec
     (λ c κs. search needs)
     (λ c. search needs)
-    (λ c. omega (arith, word-known 4 (now (c .before .before .before .before .before .args .s)) _ _ (c .before .before .before .four-at .ensures) _ (c .before .small .given .1)))
+    (λ c.
+    let (at-start, at-four-at) : tie.Start × tie.After-four-at = search in
+    omega (arith, word-known 4 (now (at-start .args .s)) _ _ (at-four-at .four-at .ensures) _ (c .before .small .given .1)))
     (λ c. search needs)
     (λ c κs. search needs)
-    (λ c. u32-read (now (c .before .before .before .before .before .args .s)) _ _ (c .before .before .before .four-at .ensures) _ _ (c .before .small .given .1) (omega arith))
+    (λ c. let (at-start, at-four-at) : tie.Start × tie.After-four-at = search in u32-read (now (at-start .args .s)) _ _ (at-four-at .four-at .ensures) _ _ (c .before .small .given .1) (omega arith))
     (λ c. search u32-cut))

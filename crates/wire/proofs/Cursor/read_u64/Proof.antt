@@ -13,8 +13,10 @@ read-u64-spec =
     (tie.spec
     (λ c κs. search needs)
     (λ c. search needs)
-    (λ c. omega (arith, number-known (now (c .before .before .before .before .before .args .s)) _ _ (c .before .before .before .number-at .ensures) _ (c .before .n .given .1)))
+    (λ c.
+    let (at-start, at-number-at) : tie.Start × tie.After-number-at = search in
+    omega (arith, number-known (now (at-start .args .s)) _ _ (at-number-at .number-at .ensures) _ (c .before .n .given .1)))
     (λ c. search needs)
     (λ c κs. search needs)
-    (λ c. number-read _ _ _ (c .before .before .before .number-at .ensures) _ _ (c .before .n .given .1) (omega arith))
+    (λ c. let at-number-at : tie.After-number-at = search in number-read _ _ _ (at-number-at .number-at .ensures) _ _ (c .before .n .given .1) (omega arith))
     (λ c. search number-cut))

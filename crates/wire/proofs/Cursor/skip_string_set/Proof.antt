@@ -15,7 +15,9 @@ skip-string-set-spec =
     (λ c. search needs)
     (λ c κs. search needs)
     (λ c. search needs)
-    (λ c. omega (arith, number-known (now (c .before .before .before .before .before .args .s)) _ _ (c .before .before .before .number-at .ensures) _ (c .before .count .given .1)))
+    (λ c.
+    let (at-start, at-number-at) : tie.Start × tie.After-number-at = search in
+    omega (arith, number-known (now (at-start .args .s)) _ _ (at-number-at .number-at .ensures) _ (c .before .count .given .1)))
     (λ c κs. search needs)
     (λ c. search needs)
     (λ c. search needs)
