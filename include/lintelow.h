@@ -41,8 +41,11 @@
  *     8   not Last: the handshake's final number differs                                  that number
  *     9   unknown operation                                                               0
  *     10  output full: a writer's whole output doesn't fit, or the block is too short     0
- *     11  no such entry: index not below the slots, or count above them                   the index or count
+ *     11  no such entry: index not below the slots, or count above them                   the index or count; of a call's single string 0
  *     12  bad entry: start + length passes the end of the bytes                           the entry's index
+ *     13  no arguments: none are known for this operation and version                     0
+ *     14  not of the shape: what the shape or version lacks isn't 0 or empty,             0
+ *         or a flag is above 1
  *
  * Pieces are judged in the order of the stream, and nothing is written before all are judged. */
 #ifndef LINTELOW_H
@@ -185,6 +188,32 @@ uint64_t lintelow_write_framed(uint8_t *out, size_t out_len, const uint8_t *c, s
 uint64_t lintelow_write_mode(uint8_t *out, size_t out_len, uint64_t n, uint8_t *block, size_t block_len);
 uint64_t lintelow_write_paths(uint8_t *out, size_t out_len, uint64_t n, uint8_t *block, size_t block_len);
 uint64_t lintelow_write_overrides(uint8_t *out, size_t out_len, uint64_t n, uint8_t *block, size_t block_len);
+
+/* The arguments of operation `op` at version major.minor, from what lintelow_read_op_args answers. Other than in the writers above, `out` stands behind
+ * what is read.
+ *
+ *     record    fifteen numbers, the twelve and then the three counts: 120 bytes, as they stand at offset 64 of an answer block. Bytes that it lacks
+ *               are 0, so a cut number keeps its low bytes; bytes beyond 120 are not looked at
+ *     entries   the strings, in reading order, parts of `bytes`. Those beyond what the arguments use are not looked at
+ *     payload   of framed data, which is written in chunks of 32768 bytes
+ *
+ * So a call that was read is written again from offset 64 of its block, its stream, its entries and its payload; the answer goes into another block.
+ * The obsolete numbers of CollectGarbage are written as 0. Kind 0; the answer's payload length and its end are the length written.
+ *
+ * Refusals, the first that holds, and their place:
+ *
+ *     9      unknown operation                                                            0
+ *     13     no arguments are known: 36, 39, and 7 below 1.25                             0
+ *     14     a number, flag, count or payload that the shape or version lacks isn't       0
+ *            0 or empty, or a flag is above 1
+ *     11     the entries run out, field by field                                          the count of the set or pairs; at a single string 0
+ *     12, 3  of each entry that is used: it passes the end of the bytes; it isn't text    the entry's index
+ *     10     the whole output doesn't fit                                                 0
+ *
+ * A count is any number: pairs of which there are 2^63 or more are above any entries, and 11 gives the number of pairs. */
+uint64_t lintelow_write_op_args(uint64_t op, uint16_t major, uint8_t minor, const uint8_t *record, size_t record_len, const uint8_t *bytes,
+                                size_t bytes_len, const uint8_t *entries, size_t entries_len, const uint8_t *payload, size_t payload_len, uint8_t *out,
+                                size_t out_len, uint8_t *block, size_t block_len);
 
 /* TESTS. */
 

@@ -320,9 +320,13 @@ def kind_codes_proof(t):
     for i, kind in enumerate(t.kinds, 1):
         facts = said(kind, count)
         calls += ["    (λ c κs. search needs)" for _ in facts]
-        # each fact is a place behind the one that came after it
-        paths = [f"c{' .before' * k} .{fact}" for k, fact in enumerate([*reversed(facts), f"match .keys{i}"])]
-        arms.append(f"    (λ c. rw ({', '.join([paths[-1], *paths[:-1]])}))")
+        # each fact is a place behind the one that came after it; one that is further back is named
+        places = [(fact.split(" ")[0], "After-", fact) for fact in reversed(facts)] + [(f"match-keys{i}", "At-", f"match .keys{i}")]
+        paths = [f"c{' .before' * k} .{fact}" if k < 2 else f"at-{name} .{fact}" for k, (name, _, fact) in enumerate(places)]
+        far = [(f"at-{name}", f"tie.{sort}{name}") for name, sort, _ in reversed(places[2:])]
+        names = ", ".join(name for name, _ in far)
+        bound = f"let {names if len(far) == 1 else f'({names})'} : {' × '.join(sort for _, sort in far)} = search in " if far else ""
+        arms.append(f"    (λ c. {bound}rw ({', '.join([paths[-1], *paths[:-1]])}))")
     return filled(KIND_CODES_PROOF, calls=calls, arms=arms)
 
 

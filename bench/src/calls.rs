@@ -5,6 +5,7 @@ pub mod recorded;
 mod same;
 pub mod short;
 mod theirs;
+pub mod written;
 
 use crate::measure::{self, Times};
 use crate::memory::{self, Allocated};

@@ -1,5 +1,5 @@
 //! `bench SAMPLES FOLDER` reads and skips the same streams, and the calls of the recordings in the folder, by Lintelow and by nix-wire, in this one
-//! process, and writes a line of figures for each case: fields are apart by tabs, and ../run, which knows their order, makes tables of them.
+//! process, reads and writes calls by Lintelow, and writes a line of figures for each case: fields are apart by tabs, and ../run, which knows their order, makes tables of them.
 mod calls;
 mod clock;
 mod measure;
@@ -9,7 +9,7 @@ mod poll;
 mod streams;
 mod theirs;
 
-use calls::{recorded, short};
+use calls::{recorded, short, written};
 use ours::Ours;
 use std::path::Path;
 use streams::{Shape, Stream};
@@ -99,6 +99,10 @@ fn of_calls(recordings: &Path, samples: usize) {
         for calls in stream.rows() {
             calls::row("short", &calls, samples);
         }
+    }
+    written::row("written", &recorded::arguments(&recordings), samples);
+    for stream in short::arguments() {
+        written::row("written", &stream.read(), samples);
     }
 }
 

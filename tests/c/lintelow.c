@@ -334,6 +334,53 @@ static void writers(void) {
     CALLED("write_paths without room", 10, lintelow_write_paths(NULL, 0, 0, block, n));
 }
 
+/* Arguments at 1.38 that are written from a record of `given` bytes, the three bytes c and the entry e. */
+#define WRITE(op, record, given, c, e, room) lintelow_write_op_args(op, 1, 38, record, given, c, 3, e, LINTELOW_ENTRY, NULL, 0, payload, room, block, n)
+
+static void calls(void) {
+    static const uint8_t abc[3] = {'a', 'b', 'c'}, bad[3] = {'a', 0xff, 'c'};
+    static const uint8_t one[LINTELOW_ENTRY] = {1, 0, 0, 0, 0, 0, 0, 0, 2}, past[LINTELOW_ENTRY] = {2, 0, 0, 0, 0, 0, 0, 0, 2};
+    static const uint8_t flags[120] = {1, 0, 0, 0, 0, 0, 0, 0, 1};
+    static uint8_t longer[121], many[120], read[LINTELOW_BLOCK], out[sizeof s], strings[8 * LINTELOW_ENTRY], joined[16];
+    size_t i;
+    CALLED("write_op_args", 0, WRITE(1, NULL, 0, abc, one, sizeof payload));
+    WROTE("\2\0\0\0\0\0\0\0bc\0\0\0\0\0", 16);
+    EXPECT("kind", at(block, KIND), 0);
+    CALLED("write_op_args, two flags", 0, WRITE(35, flags, sizeof flags, abc, one, sizeof payload));
+    WROTE("\1\0\0\0\0\0\0\0\1\0\0\0\0\0\0", 16);
+    memcpy(longer, flags, sizeof flags), longer[120] = FILL;
+    CALLED("write_op_args, a longer record", 0, WRITE(35, longer, sizeof longer, abc, one, sizeof payload));
+    WROTE("\1\0\0\0\0\0\0\0\1\0\0\0\0\0\0", 16);
+    CALLED("write_op_args, a shorter record", 0, WRITE(35, flags, 8, abc, one, sizeof payload));
+    WROTE("\1\0\0\0\0\0\0\0\0\0\0\0\0\0\0", 16);
+    CALLED("write_op_args, unknown", 9, WRITE(48, flags, sizeof flags, abc, past, sizeof payload));
+    CALLED("write_op_args, not known", 13, WRITE(36, flags, sizeof flags, abc, past, sizeof payload));
+    CALLED("write_op_args, no such number", 14, WRITE(1, flags, sizeof flags, abc, past, sizeof payload));
+    memset(many + 96, 0xff, 8); /* SetOptions: 2^64 - 1 pairs */
+    CALLED("write_op_args, too many pairs", 11, WRITE(19, many, sizeof many, abc, past, sizeof payload));
+    EXPECT("place", at(block, PLACE), UINT64_MAX);
+    CALLED("write_op_args, bad entry", 12, WRITE(1, NULL, 0, bad, past, 15));
+    CALLED("write_op_args, bad text", 3, WRITE(1, NULL, 0, bad, one, 15));
+    CALLED("write_op_args, 15 bytes of room", 10, WRITE(1, NULL, 0, abc, one, 15));
+    CALLED("write_op_args, no such payload", 14, lintelow_write_op_args(13, 1, 38, NULL, 0, NULL, 0, NULL, 0, abc, 3, payload, sizeof payload, block, n));
+    CALLED("write_op_args of nothing", 0, lintelow_write_op_args(13, 1, 38, NULL, 0, NULL, 0, NULL, 0, NULL, 0, NULL, 0, block, n));
+    EXPECT("end", at(block, END), 0);
+
+    s_len = 0; /* AddToStore, written again from its own block */
+    string("name"), string("text:sha256"), number(1), string("/nix/store/x"), number(1);
+    number(3), memcpy(s + s_len, "abc", 3), s_len += 3;
+    number(0);
+    EXPECT("read", lintelow_read_op_args(7, 1, 38, s, s_len, strings, sizeof strings, joined, sizeof joined, read, sizeof read), 0);
+    memset(out, FILL, sizeof out);
+    CALLED("write_op_args of what was read", 0,
+           lintelow_write_op_args(7, 1, 38, read + 64, 120, s, s_len, strings, LINTELOW_ENTRY * at(read, ENTRIES), joined, at(read, PAYLOAD), out,
+                                  sizeof out, block, n));
+    EXPECT("end", at(block, END), s_len);
+    EXPECT("length", at(block, PAYLOAD), s_len);
+    EXPECT("the same bytes", (uint64_t)memcmp(out, s, s_len), 0);
+    for (i = s_len; i < sizeof out; i++) EXPECT("bytes beyond", out[i], FILL);
+}
+
 static void tests(void) {
     static const char path[] = "/nix/store/pczmyy74v7nix6zir6hbarllxr5swa31-dep";
     static const uint8_t one[LINTELOW_ENTRY] = {11, 0, 0, 0, 0, 0, 0, 0, 32};
@@ -368,6 +415,7 @@ int main(void) {
     handshakes();
     pieces();
     writers();
+    calls();
     tests();
     printf("%d failures\n", failures);
     return failures != 0;

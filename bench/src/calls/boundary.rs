@@ -32,9 +32,9 @@ extern "C" {
     fn lintelow_skip_daemon_result(op: u64, major: u16, minor: u8, s: *const u8, s_len: usize, block: *mut u8, block_len: usize) -> u64;
 }
 
-const BLOCK: usize = 200;
+pub const BLOCK: usize = 200;
 /// Where the block has the end.
-const END: usize = 8 * 4;
+pub const END: usize = 8 * 4;
 
 pub struct Boundary<'s> {
     what: What,

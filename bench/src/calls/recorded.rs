@@ -76,9 +76,16 @@ const ROWS: [(&str, What); 6] = [
 ];
 
 pub fn rows(recordings: &[Recording]) -> impl Iterator<Item = Calls<'_>> {
-    ROWS.into_iter().map(|(name, what)| {
-        let asked = recordings.iter().flat_map(|recording| recording.calls(what));
-        let (calls, others): (Vec<Call>, Vec<Call>) = asked.partition(|call| same::is_read(what, call));
-        Calls { name: name.to_string(), what, calls, left_out: others.len() }
-    })
+    ROWS.into_iter().map(|(name, what)| row(recordings, name, what))
+}
+
+/// The arguments of all calls.
+pub fn arguments(recordings: &[Recording]) -> Calls<'_> {
+    row(recordings, "of recorded sessions, as they came", What::ReadArguments)
+}
+
+fn row<'s>(recordings: &'s [Recording], name: &str, what: What) -> Calls<'s> {
+    let asked = recordings.iter().flat_map(|recording| recording.calls(what));
+    let (calls, others): (Vec<Call>, Vec<Call>) = asked.partition(|call| same::is_read(what, call));
+    Calls { name: name.to_string(), what, calls, left_out: others.len() }
 }

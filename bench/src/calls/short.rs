@@ -8,12 +8,17 @@ const VERSION: Version = Version::new(1, 34);
 const ALIKE: usize = 256;
 
 const IS_VALID_PATH: u64 = 1;
+const ADD_TO_STORE: u64 = 7;
 const SYNC_WITH_GC: u64 = 13;
 const QUERY_DERIVER: u64 = 18;
 const SET_OPTIONS: u64 = 19;
 const QUERY_PATH_INFO: u64 = 26;
+const QUERY_VALID_PATHS: u64 = 31;
 
 const PATH: &str = "/nix/store/2baasz4qrckrzh2cizkgc23rr9j3kpgk-trivial-1.0";
+
+const ARGUMENTS: [What; 2] = [What::ReadArguments, What::SkipArguments];
+const REPLY: [What; 2] = [What::ReadReply, What::SkipReply];
 
 /// What one side says, so often in a row.
 pub struct Stream {
@@ -45,9 +50,50 @@ fn path_info() -> Vec<u8> {
     bytes
 }
 
+fn options() -> Vec<u8> {
+    let mut bytes = Vec::new();
+    (0..12).for_each(|number| write_u64(&mut bytes, number));
+    write_u64(&mut bytes, 2);
+    ["max-jobs", "4", "substituters", "https://cache.nixos.org"].iter().for_each(|word| write_string(&mut bytes, word));
+    bytes
+}
+
+fn paths() -> Vec<u8> {
+    let mut bytes = Vec::new();
+    write_string_set(&mut bytes, &[PATH; 8]);
+    write_u64(&mut bytes, 1);
+    bytes
+}
+
+fn added(length: usize) -> Vec<u8> {
+    let mut bytes = Vec::new();
+    write_string(&mut bytes, "trivial-1.0");
+    write_string(&mut bytes, "fixed:r:sha256");
+    write_string_set(&mut bytes, &[PATH]);
+    write_u64(&mut bytes, 0);
+    write_u64(&mut bytes, length as u64);
+    bytes.resize(bytes.len() + length, b'x');
+    write_u64(&mut bytes, 0);
+    bytes
+}
+
+fn stream((name, op, calls, part): (&'static str, u64, [What; 2], Vec<u8>)) -> Stream {
+    Stream { name, op, calls, bytes: part.repeat(ALIKE) }
+}
+
+/// Calls to be written.
+pub fn arguments() -> Vec<Stream> {
+    let parts = [
+        ("nothing (SyncWithGC)", SYNC_WITH_GC, ARGUMENTS, vec![]),
+        ("one store path (QueryPathInfo)", QUERY_PATH_INFO, ARGUMENTS, string(PATH)),
+        ("eight store paths and a flag (QueryValidPaths)", QUERY_VALID_PATHS, ARGUMENTS, paths()),
+        ("twelve numbers and two pairs (SetOptions)", SET_OPTIONS, ARGUMENTS, options()),
+        ("three strings and 1,000 bytes (AddToStore)", ADD_TO_STORE, ARGUMENTS, added(1000)),
+    ];
+    parts.into_iter().map(stream).collect()
+}
+
 pub fn streams() -> Vec<Stream> {
-    const ARGUMENTS: [What; 2] = [What::ReadArguments, What::SkipArguments];
-    const REPLY: [What; 2] = [What::ReadReply, What::SkipReply];
     let parts = [
         ("arguments of nothing", SYNC_WITH_GC, ARGUMENTS, vec![]),
         ("a reply of nothing", SET_OPTIONS, REPLY, vec![]),
@@ -56,18 +102,27 @@ pub fn streams() -> Vec<Stream> {
         ("arguments of one store path", QUERY_PATH_INFO, ARGUMENTS, string(PATH)),
         ("a reply with a path info", QUERY_PATH_INFO, REPLY, path_info()),
     ];
-    parts.into_iter().map(|(name, op, calls, part)| Stream { name, op, calls, bytes: part.repeat(ALIKE) }).collect()
+    parts.into_iter().map(stream).collect()
 }
 
 impl Stream {
     pub fn rows(&self) -> impl Iterator<Item = Calls<'_>> {
         self.calls.into_iter().map(|what| {
-            let each = self.bytes.len() / ALIKE;
-            let call = |index| Call { op: self.op, version: VERSION, bytes: &self.bytes[index * each..][..each] };
-            let calls: Vec<Call> = (0..ALIKE).map(call).collect();
-            assert!(calls.iter().all(|call| same::is_read(what, call)), "calls that both sides read");
             let done = if matches!(what, What::ReadArguments | What::ReadReply) { "read" } else { "skipped" };
-            Calls { name: format!("{}, {done}", self.name), what, calls, left_out: 0 }
+            self.row(format!("{}, {done}", self.name), what)
         })
+    }
+
+    /// What is read of it, to be written.
+    pub fn read(&self) -> Calls<'_> {
+        self.row(self.name.to_string(), self.calls[0])
+    }
+
+    fn row(&self, name: String, what: What) -> Calls<'_> {
+        let each = self.bytes.len() / ALIKE;
+        let call = |index| Call { op: self.op, version: VERSION, bytes: &self.bytes[index * each..][..each] };
+        let calls: Vec<Call> = (0..ALIKE).map(call).collect();
+        assert!(calls.iter().all(|call| same::is_read(what, call)), "calls that both sides read");
+        Calls { name, what, calls, left_out: 0 }
     }
 }

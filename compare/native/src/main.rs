@@ -3,11 +3,15 @@
 //! `native text STRIDE THREADS` holds the library's text against Rust's `from_utf8`: all strings of up to three bytes, and of those of four that begin with
 //! E0 or above every STRIDE-th.
 //! `native limit` holds their answers to strings and chunks of the limit and above, and to long strings in a row, against each other.
+//! `native calls SEED COUNT` has calls written by the library, reads them by nix-wire, and holds them against what its writers write.
+//! `native answer` reads requests in the probe's form and writes the library's answers in the probe's lines.
 //! Exit status: 0 no difference, 1 a difference, 2 bad usage.
 #![feature(alloc_error_hook)]
+mod calls;
 mod judge;
 mod lent;
 mod limit;
+mod lines;
 mod memory;
 mod ours;
 mod requests;
@@ -32,6 +36,11 @@ fn main() -> ExitCode {
             _ => usage(),
         },
         ["limit"] => limit::run(),
+        ["calls", seed, count] => match (seed.parse(), number(count)) {
+            (Ok(seed), Some(count)) => calls::run(seed, count),
+            _ => usage(),
+        },
+        ["answer"] => lines::run().is_ok(),
         _ => usage(),
     };
     if is_fine {
@@ -42,6 +51,6 @@ fn main() -> ExitCode {
 }
 
 fn usage() -> ! {
-    eprintln!("usage: native requests SEED COUNT THREADS | native text STRIDE THREADS | native limit");
+    eprintln!("usage: native requests SEED COUNT THREADS | native text STRIDE THREADS | native limit | native calls SEED COUNT | native answer");
     std::process::exit(2)
 }

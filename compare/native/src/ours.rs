@@ -17,7 +17,7 @@ struct Asked<'q> {
 type Ask = for<'r> fn(Asked, &'r mut [u8], &'r mut [u8]) -> Result<Answer<'r>, Refusal>;
 
 /// The calls that are compared, each with room for entries and for bytes lent to it.
-const CALLS: [(u64, &str, Ask); 29] = [
+const CALLS: [(u64, &str, Ask); 30] = [
     (1, "read_op_args", |q, e, p| raw::read_op_args(q.op, q.version, q.a, e, p)),
     (2, "skip_op_args", |q, _, _| raw::skip_op_args(q.op, q.version, q.a)),
     (3, "read_daemon_result", |q, e, p| raw::read_daemon_result(q.op, q.version, q.a, e, p)),
@@ -47,7 +47,18 @@ const CALLS: [(u64, &str, Ask); 29] = [
     (30, "extract_store_path", |q, _, _| raw::extract_store_path(q.a)),
     (31, "op_has_client_framed_data", |q, _, _| raw::op_has_client_framed_data(q.op)),
     (33, "version from wire", |q, _, _| raw::version_from_wire(q.op)),
+    (34, "write_op_args", write_op_args),
 ];
+
+/// b is the record, the length of the entries, the entries and the payload. All of b is given as the record: what follows its numbers is not looked at.
+fn write_op_args<'r>(q: Asked, _: &'r mut [u8], out: &'r mut [u8]) -> Result<Answer<'r>, Refusal> {
+    let (length, rest) = match q.b.get(raw::RECORD..).and_then(<[u8]>::split_first_chunk) {
+        Some((length, rest)) => (u64::from_le_bytes(*length) as usize, rest),
+        None => (0, &[][..]),
+    };
+    let (entries, payload) = rest.split_at(length.min(rest.len()));
+    raw::write_op_args(q.op, q.version, q.b, q.a, entries, payload, out)
+}
 
 /// The number and the name of each call that is compared.
 pub fn calls() -> impl Iterator<Item = (u64, &'static str)> {

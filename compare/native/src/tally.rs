@@ -99,7 +99,7 @@ impl Tally {
             println!("{name:<30}{cells}");
         };
         line("call", Verdict::ALL.map(|v| v.name().to_string()));
-        for ((call, name), counts) in calls().zip(&self.counts) {
+        for ((call, name), counts) in calls().zip(&self.counts).filter(|(_, counts)| counts.iter().any(|&n| n > 0)) {
             line(&format!("{call:>2} {name}"), counts.map(|n| n.to_string()));
         }
         line("all", Verdict::ALL.map(|v| self.total(v).to_string()));

@@ -31,14 +31,14 @@ fn with_operation(q: &Request, op: Op) -> Result<Line> {
     Ok(line.ending(position(r)))
 }
 
-fn inline(data: FramedData) -> Vec<u8> {
+pub fn inline(data: FramedData) -> Vec<u8> {
     match data {
         FramedData::Inline(bytes) => bytes,
         FramedData::FileRef(_) => unreachable!("no reader answers a file"),
     }
 }
 
-fn mode_number(mode: &str) -> u64 {
+pub fn mode_number(mode: &str) -> u64 {
     match mode {
         "normal" => 0,
         "repair" => 1,
@@ -81,7 +81,7 @@ fn arguments(call: Option<OpCall>) -> Line {
     }
 }
 
-fn set_options(call: OpCall) -> Line {
+pub fn set_options(call: OpCall) -> Line {
     let OpCall::SetOptions {
         keep_failed,
         keep_going,

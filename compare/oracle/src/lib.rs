@@ -9,6 +9,7 @@ pub mod wire;
 pub mod wire_async;
 
 pub mod answer;
+pub mod calls;
 mod conversation;
 mod damage;
 mod dice;

@@ -131,7 +131,7 @@ module _ (v : Version) where
 
 -- ---- the table
 -- what holds of every row holds of the one that is found
-found : {A : Type 0} (f g : Operation → A) (os : List Operation) (c : ℕ) (o : Operation) → map f os ≡ map g os → findIn os c ≡ row o → (f o ≡ g o) × (o .code ≡ c)
+pub found : {A : Type 0} (f g : Operation → A) (os : List Operation) (c : ℕ) (o : Operation) → map f os ≡ map g os → findIn os c ≡ row o → (f o ≡ g o) × (o .code ≡ c)
 unfolding findIn
 found f g [] c o m e = let z : _≡_ {A = ℕ} 0 1 = cc in absurd (omega arith)
 found f g (x ∷ os) c o m e = by (eqb (x .code) c) refl e (found f g os c o (cc))

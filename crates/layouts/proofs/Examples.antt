@@ -1,4 +1,4 @@
--- P1 to P12 hold, and so does the table of pitfalls: antt computes both.
+-- P1 to P12 hold, and so do the tables of pitfalls and of written calls: antt computes them.
 use mathlib.Core.Path.{_≡_, refl}
 use mathlib.Core.List.{map}
 use Rattle.text.specs.Prefix.{isText, goodPrefix, first, charLength, longer, low, high}
@@ -11,7 +11,9 @@ use Rattle.layouts.specs.Operations.{kindOf, operations, find}
 use Rattle.layouts.specs.Calls.{argumentsTree, skippedTree, replyTree, readOpArgs, skipOpArgs, skipDaemonResult}
 use Rattle.layouts.specs.Stderr.{messageOf, stderrFrom, stderrLoop, readStderrLoop}
 use Rattle.layouts.specs.Handshake.{hear, judgeHeard, daemonInfo, greeting, handshake, parseHandshake}
-use Rattle.layouts.specs.Examples.{Example, examples, pitfalls}
+use Rattle.layouts.specs.Writers.{viewOf, stringBytes, stringsBytes, writing, textAt, textsFrom}
+use Rattle.layouts.specs.CallWriter.{fieldsThere, callFields, valueFor, leave, leftBy, allZero, hasFrames, isOfShape, stringsIn, entriesFor, fieldBytes, fieldsBytes, callBytes, writeOpArgs}
+use Rattle.layouts.specs.Examples.{Example, examples, pitfalls, callsWritten}
 
 pub hold : map (λ (e : Example). e .computed) examples ≡ map (λ (e : Example). e .stated) examples
 unfolding examples isText goodPrefix first charLength longer low high numberAt numberBytes padOf atLeast layout numOf textOf chunkOf run skipOf noted entered notText textTaken halfTaken chunkTaken judgeOf entriesOf payloadOf kindOf operations find argumentsTree skippedTree readOpArgs skipOpArgs messageOf stderrFrom stderrLoop readStderrLoop
@@ -20,3 +22,7 @@ hold = refl
 pub avoided : map (λ (e : Example). e .computed) pitfalls ≡ map (λ (e : Example). e .stated) pitfalls
 unfolding pitfalls isText goodPrefix first charLength longer low high numberAt numberBytes padOf atLeast layout numOf textOf chunkOf run skipOf noted entered recordOf notText textTaken halfTaken chunkTaken judgeOf kindOf operations find skippedTree replyTree skipOpArgs skipDaemonResult hear judgeHeard daemonInfo greeting handshake parseHandshake
 avoided = refl
+
+pub calls-written : map (λ (e : Example). e .computed) callsWritten ≡ map (λ (e : Example). e .stated) callsWritten
+unfolding callsWritten isText goodPrefix first charLength longer low high numberBytes padOf atLeast kindOf operations find viewOf stringBytes stringsBytes writing textAt textsFrom fieldsThere callFields valueFor leave leftBy allZero hasFrames isOfShape stringsIn entriesFor fieldBytes fieldsBytes callBytes writeOpArgs
+calls-written = refl

@@ -28,13 +28,13 @@ use Rattle.layouts.proofs.Writers.{onward-ok}
 use Rattle.layouts.proofs.Exact.{past, head-number, complete, Begins, sound}
 
 -- a string at a place, with any padding
-record StringAt (s : List ℕ) (at : ℕ) (c pad l : List ℕ) : Type 0 where
-  fits : at + 8 + length c ≤ length s
-  contents : take (length c) (drop (at + 8) s) ≡ c
-  padding : drop (at + 8 + length c) s ≡ pad ++ l
-  after : drop (at + 8 + length c + padOf (length c)) s ≡ l
+pub record StringAt (s : List ℕ) (at : ℕ) (c pad l : List ℕ) : Type 0 where
+  pub fits : at + 8 + length c ≤ length s
+  pub contents : take (length c) (drop (at + 8) s) ≡ c
+  pub padding : drop (at + 8 + length c) s ≡ pad ++ l
+  pub after : drop (at + 8 + length c + padOf (length c)) s ≡ l
 
-string-at : (s : List ℕ) (at : ℕ) (c pad l : List ℕ) → drop at s ≡ numberBytes (length c) ++ (c ++ (pad ++ l)) → length pad ≡ padOf (length c) → StringAt s at c pad l
+pub string-at : (s : List ℕ) (at : ℕ) (c pad l : List ℕ) → drop at s ≡ numberBytes (length c) ++ (c ++ (pad ++ l)) → length pad ≡ padOf (length c) → StringAt s at c pad l
 string-at s at c pad l e h =
     let d = past s at 8 (numberBytes (length c)) (c ++ (pad ++ l)) e (length-number (length c)) in
     let p = past s (at + 8) (length c) c (pad ++ l) d refl in
@@ -65,7 +65,7 @@ entries-twice [] at = refl
 entries-twice (c ∷ cs) at = let z = entries-twice cs (at + 8 + length c + padOf (length c)) in omega arith
 
 -- string number i, by the entries from there on
-view-at : (s es : List ℕ) (i start len : ℕ) (rest : List ℕ) → drop (2 * i) es ≡ start ∷ len ∷ rest → start + len ≤ length s → viewOf s es i ≡ ok (take len (drop start s))
+pub view-at : (s es : List ℕ) (i start len : ℕ) (rest : List ℕ) → drop (2 * i) es ≡ start ∷ len ∷ rest → start + len ≤ length s → viewOf s es i ≡ ok (take len (drop start s))
 unfolding viewOf
 view-at s es i start len rest e h =
     let a = simp (e, add-zero) at (getD-drop (2 * i) es 0 0) in
@@ -75,7 +75,7 @@ view-at s es i start len rest e h =
 
 -- strings in a stream
 module _ (s u : List ℕ) where
-  first-at : (c : List ℕ) (cs : List (List ℕ)) (at : ℕ) → drop at s ≡ stringsBytes (c ∷ cs) ++ u → StringAt s at c (replicate (padOf (length c)) 0) (stringsBytes cs ++ u)
+  pub first-at : (c : List ℕ) (cs : List (List ℕ)) (at : ℕ) → drop at s ≡ stringsBytes (c ∷ cs) ++ u → StringAt s at c (replicate (padOf (length c)) 0) (stringsBytes cs ++ u)
   unfolding stringsBytes stringBytes
   first-at c cs at e = string-at s at c (replicate (padOf (length c)) 0) (stringsBytes cs ++ u) (simp append-assoc at e) (length-replicate (padOf (length c)) 0)
 
@@ -196,7 +196,7 @@ module _ (s : List ℕ) (at : ℕ) (cs : List (List ℕ)) (rest : List ℕ) (e :
       rw (set-pieces, le-leb (length cs) (length (es ++ spare) / 2) l) (texts-strings s rest cs (at + 8) 0 (es ++ spare) spare after-count g refl)
 
 -- ---- demand 2, back
-zeros : (s : List ℕ) (at n : ℕ) (pad l : List ℕ) → drop at s ≡ pad ++ l → length pad ≡ n → Zeros s at (at + n) → replicate n 0 ≡ pad
+pub zeros : (s : List ℕ) (at n : ℕ) (pad l : List ℕ) → drop at s ≡ pad ++ l → length pad ≡ n → Zeros s at (at + n) → replicate n 0 ≡ pad
 zeros s at n pad l e g z =
     ext-getD 0 (replicate n 0) pad (length-replicate n 0 ∙ sym g)
     (λ i h.
@@ -204,7 +204,7 @@ zeros s at n pad l e g z =
     getD-replicate n i 0 0 k ∙ sym (z (at + i) (omega arith) (omega arith)) ∙ sym (getD-drop at s i 0) ∙ ap (λ (o : List ℕ). getD o i 0) e
     ∙ List·getD-append pad l 0 i (omega arith))
 
-not-refused : {A : Type 0} (b : Bool) (which place : ℕ) (o : Result A) (x : A) → pick b (refused which place 0) o ≡ ok x → (b ≡ false) × (o ≡ ok x)
+pub not-refused : {A : Type 0} (b : Bool) (which place : ℕ) (o : Result A) (x : A) → pick b (refused which place 0) o ≡ ok x → (b ≡ false) × (o ≡ ok x)
 not-refused true which place o x h = absurd (never-both h)
 not-refused false which place o x h = (refl, h)
 

@@ -1,22 +1,24 @@
--- 0 is success: no refusal of a string or of a set has that number. And a string that is passed lies in its stream.
+-- 0 is success: no refusal of a string, of a set or of a call that is written has that number. And a string that is passed lies in its stream.
 use Prim.Native.Nat.{ℕ, zero, suc, _+_, _-_, _≤_, _<_}
 use mathlib.Core.Path.{_≡_}
-use mathlib.Core.List.{List, _∷_}
+use mathlib.Core.List.{List, [], _∷_}
 use mathlib.Core.Bool.{Bool, true, false, not, _&&_}
 use lib.ListN.{length, take, drop}
-use lib.Dec.{leb, ltb}
+use lib.Dec.{leb, ltb, eqb}
 use native.Mathlib.Omega.{arith}
 use Rattle.text.specs.Prefix.{isText}
 use Rattle.text.specs.Rfc3629.{Text}
 use Rattle.layouts.specs.declared.Record.{Record}
-use Rattle.layouts.specs.Primitive.{pick, numberAt, padOf, cutShort, badText, noEntryRoom, noPayloadRoom, outputFull, noSuchEntry, badEntry, Result, ok, refused, onward}
-use Rattle.layouts.specs.Shape.{Role, kept, asCount, str, set, units, strings, layout, stop}
+use Rattle.layouts.specs.Primitive.{pick, numberAt, padOf, cutShort, badText, noEntryRoom, noPayloadRoom, outputFull, noSuchEntry, badEntry, noArguments, notOfShape, Version, Result, ok, refused, onward}
+use Rattle.layouts.specs.Shape.{What, Role, kept, asCount, str, set, units, strings, layout, stop}
 use Rattle.layouts.specs.Pieces as P
 use Rattle.layouts.specs.Pieces.{Pieces, number, text, half, chunk, end, fault, run, afterNum, afterText, skipOf}
 use Rattle.layouts.specs.Record.{noted, isKept, entered, withPayload}
 use Rattle.layouts.specs.Judge.{notText, textTaken, halfTaken, chunkTaken, judgeOf}
-use Rattle.layouts.specs.Calls.{field, readString, readStringSet}
+use Rattle.layouts.specs.Operations.{kindOf, Row, row, unknown, find}
+use Rattle.layouts.specs.Calls.{argumentsKinds, field, readString, readStringSet}
 use Rattle.layouts.specs.Writers.{slotsOf, entryStart, entryLength, viewOf, stringBytes, setBytes, writing, writeString, textAt, textsFrom, textsOf, writeStringSet}
+use Rattle.layouts.specs.CallWriter.{fieldsThere, fieldsBy, callFields, valueFor, targetIn, isOfShape, stringsIn, entriesFor, fieldsBytes, stringsOf, shapeBytes, callBytes, writeOpArgs}
 use Rattle.layouts.proofs.Placed.{never-both}
 use Rattle.layouts.proofs.Views.{NumView, is-value, is-short, TextView, no-length, too-long, no-contents, no-padding, is-whole, num-view, text-view}
 
@@ -71,6 +73,30 @@ module _ (bytes es : List ℕ) where
       onward-numbered (textsOf bytes es count) (λ cs. writing (setBytes cs) lent)
       (pick-numbered (leb count (slotsOf es)) (textsFrom bytes es count 0) (refused noSuchEntry count 0) (texts-numbered count 0) (omega arith))
       (λ cs. writing-numbered (setBytes cs) lent)
+
+  -- a call
+  entries-numbered : (ns : List ℕ) (slots n : ℕ) (ws : List What) → Numbered (entriesFor ns slots n ws)
+  unfolding entriesFor
+  entries-numbered ns slots n [] = tt
+  entries-numbered ns slots n (w ∷ ws) =
+      pick-numbered (leb (n + stringsIn ns w) slots) (entriesFor ns slots (n + stringsIn ns w) ws) (refused noSuchEntry (valueFor ns (targetIn w)) 0)
+      (entries-numbered ns slots (n + stringsIn ns w) ws) (omega arith)
+
+  shape-numbered : (ns p : List ℕ) (ws : List What) → Numbered (shapeBytes ns bytes es p ws)
+  shape-numbered ns p ws =
+      pick-numbered (isOfShape ns p ws) (onward (stringsOf ns bytes es ws) (λ cs. ok (fieldsBytes ns p cs ws))) (refused notOfShape 0 0)
+      (onward-numbered (stringsOf ns bytes es ws) (λ cs. ok (fieldsBytes ns p cs ws))
+      (onward-numbered (entriesFor ns (slotsOf es) 0 ws) (λ n. textsFrom bytes es n 0) (entries-numbered ns (slotsOf es) 0 ws) (λ n. texts-numbered n 0)) (λ cs. tt)) (omega arith)
+
+  pub call-numbered : (op : ℕ) (v : Version) (ns p lent : List ℕ) → Numbered (writeOpArgs op v ns bytes es p lent)
+  unfolding writeOpArgs callBytes callFields
+  call-numbered op v ns p lent =
+      onward-numbered (callBytes op v ns bytes es p) (λ out. writing out lent)
+      (onward-numbered (callFields op v) (λ ws. shapeBytes ns bytes es p ws) (by (find op)) (shape-numbered ns p)) (λ out. writing-numbered out lent)
+    where
+      by : (f : Row) → Numbered (fieldsBy f op v)
+      by (row o) = pick-numbered (eqb (kindOf v false (argumentsKinds op)) 0) (refused noArguments 0 0) (ok (fieldsThere v (o .arguments))) (omega arith) tt
+      by unknown = omega arith
 
 -- the readers
 module _ (s : List ℕ) where

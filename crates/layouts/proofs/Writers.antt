@@ -63,7 +63,7 @@ module _ (bytes es : List ℕ) where
       by zero h = rw add-zero (text-told i c q .0)
       by (suc k) h = ap (viewOf bytes es) (omega arith) ∙ t .views k (omega arith)
 
-  texts-told : (n i : ℕ) (cs : List (List ℕ)) → textsFrom bytes es n i ≡ ok cs → Told n i cs
+  pub texts-told : (n i : ℕ) (cs : List (List ℕ)) → textsFrom bytes es n i ≡ ok cs → Told n i cs
   unfolding textsFrom
   texts-told zero i cs q =
       let z : [] ≡ cs = cc in

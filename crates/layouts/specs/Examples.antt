@@ -1,4 +1,5 @@
--- The worked examples P1 to P12 of document 01: one table. And a second one, of the errors that 01 calls easy and of the order of judging.
+-- The worked examples P1 to P12 of document 01: one table. A second one, of the errors that 01 calls easy and of the order of judging. A third one, of calls that
+-- are written.
 use Prim.Native.Nat.{ℕ}
 use mathlib.Core.List.{List, [], _∷_, _++_}
 use mathlib.Core.Bool.{Bool}
@@ -10,6 +11,8 @@ use Rattle.layouts.specs.Judge.{Ended, entriesOf, payloadOf}
 use Rattle.layouts.specs.Calls.{Answer, readOpArgs, skipOpArgs, skipDaemonResult, field, skipString, readString, readStringSet, readFramed}
 use Rattle.layouts.specs.Stderr.{Next, Last, readStderrLoop}
 use Rattle.layouts.specs.Handshake.{parseHandshake}
+use Rattle.layouts.specs.Writers.{partOf}
+use Rattle.layouts.specs.CallWriter.{callBytes, writeOpArgs}
 
 -- what is seen of an answer: 0 and the end; or the refusal's number and place
 abbrev pub seen : Result Ended → List ℕ
@@ -101,4 +104,20 @@ pitfalls =
     -- a handshake at 1.10 has no more than the daemon's last number, which must be Last: 8 at that number
     ex (told (parseHandshake (N# 0x6e697863 ++ N# 0x10a) (N# 0x6478696f ++ N# 0x126 ++ N# Last) 0)) (0 ∷ 16 ∷ 1 ∷ 10 ∷ []) ∷
     ex (told (parseHandshake (N# 0x6e697863 ++ N# 0x10a) (N# 0x6478696f ++ N# 0x126 ++ N# 0) 0)) (8 ∷ 16 ∷ 1 ∷ []) ∷
+    []
+
+unfoldable pub callsWritten : List Example
+callsWritten =
+    -- the obsolete numbers of CollectGarbage are written as 0
+    ex (partOf (callBytes 20 (version 1 38) (1 ∷ 2 ∷ 3 ∷ replicate 12 0) [] [] [])) (N# 1 ++ N# 0 ++ N# 2 ++ N# 3 ++ N# 0 ++ N# 0 ++ N# 0) ∷
+    -- 9; 13; 14 before 11, by a number that AddPermRoot lacks
+    ex (skip (writeOpArgs 48 (version 1 38) (replicate 15 0) [] [] [] [])) (9 ∷ 0 ∷ []) ∷
+    ex (skip (writeOpArgs 7 (version 1 24) (1 ∷ replicate 14 0) [] [] [] [])) (13 ∷ 0 ∷ []) ∷
+    ex (skip (writeOpArgs 47 (version 1 38) (1 ∷ replicate 14 0) [] [] [] [])) (14 ∷ 0 ∷ []) ∷
+    -- 11 before 12: its second string has no entry, its first a bad one. 12 before 10; 10
+    ex (skip (writeOpArgs 47 (version 1 38) (replicate 15 0) [] (1 ∷ 1 ∷ []) [] [])) (11 ∷ 0 ∷ []) ∷
+    ex (skip (writeOpArgs 1 (version 1 38) (replicate 15 0) [] (1 ∷ 1 ∷ []) [] [])) (12 ∷ 0 ∷ []) ∷
+    ex (skip (writeOpArgs 1 (version 1 38) (replicate 15 0) [] (0 ∷ 0 ∷ []) [] (replicate 7 0))) (10 ∷ 0 ∷ []) ∷
+    -- 2^63 pairs: 11 at their count, not at its double
+    ex (skip (writeOpArgs 19 (version 1 12) (replicate 12 0 ++ (9223372036854775808 ∷ 0 ∷ 0 ∷ [])) [] [] [] [])) (11 ∷ 9223372036854775808 ∷ []) ∷
     []

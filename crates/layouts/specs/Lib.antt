@@ -9,11 +9,15 @@ pub mod Calls
 pub mod Stderr
 pub mod Handshake
 pub mod Writers
+-- document 02: W-201
+pub mod CallWriter
 pub mod Grammar
 pub mod Refusals
 pub mod Examples
 -- what the demands speak of
 pub mod Soft
 pub mod Demands
+pub mod CallTrips
+pub mod CallOurs
 -- what a refusal of the code means
 pub mod Refusal

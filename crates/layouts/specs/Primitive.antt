@@ -107,6 +107,14 @@ noSuchEntry = 11
 abbrev pub badEntry : ℕ
 badEntry = 12
 
+-- the call writer: the operation has no arguments that are known at this version: 0
+abbrev pub noArguments : ℕ
+noArguments = 13
+
+-- the call writer: a number, count or payload that no field takes isn't 0 or empty, or a flag is above 1: 0
+abbrev pub notOfShape : ℕ
+notOfShape = 14
+
 -- ---- what a call answers; the stream is 1 for the daemon's of a handshake and else 0
 pub data Result (A : Type 0) : Type 0 where
   ok : A → Result A

@@ -37,6 +37,12 @@ pub const NO_SUCH_ENTRY: u64 = 11;
 // An entry passes the end of the bytes.
 pub const BAD_ENTRY: u64 = 12;
 
+// The call writer: no arguments are known for the operation at that version.
+pub const NO_ARGUMENTS: u64 = 13;
+
+// The call writer: what no field takes is not 0 or empty, or a flag is above 1.
+pub const NOT_OF_SHAPE: u64 = 14;
+
 // Why a call stops: the refusal's number, its place, and 1 for the daemon's stream of a handshake, else 0.
 pub struct Refusal {
     pub which: u64,

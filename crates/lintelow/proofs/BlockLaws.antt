@@ -30,7 +30,7 @@ use Rattle.lintelow.specs.RoundTrips.{Has, StringReported, OutputReporte
 use Rattle.lintelow.proofs.TripLaws.{StringTrip}
 
 -- ---- numbers one after the other, as they are found again
-number-in : (ns rest : List ℕ) (i : ℕ) → i < length ns → getD ns i 0 < 18446744073709551616 → numberAt (bytesOf ns ++ rest) (8 * i) ≡ getD ns i 0
+pub number-in : (ns rest : List ℕ) (i : ℕ) → i < length ns → getD ns i 0 < 18446744073709551616 → numberAt (bytesOf ns ++ rest) (8 * i) ≡ getD ns i 0
 unfolding bytesOf
 number-in [] rest i h g = absurd (omega arith)
 number-in (n ∷ ns) rest zero h g = ap (λ (l : List ℕ). numberAt l 0) (append-assoc (numberBytes n) (bytesOf ns) rest) ∙ number-of-bytes n (bytesOf ns ++ rest) g
@@ -41,7 +41,7 @@ number-in (n ∷ ns) rest (suc i) h g =
     ∙ ap (λ (j : ℕ). drop j (numberBytes n ++ b)) k ∙ drop-append-add (numberBytes n) b (8 * i) in
     sym (number-drop ((numberBytes n ++ bytesOf ns) ++ rest) (8 * suc i)) ∙ ap (λ (l : List ℕ). numberAt l 0) d ∙ number-drop b (8 * i) ∙ number-in ns rest i (omega arith) g
 
-numbers-from : (es : List ℕ) (m at : ℕ) (b rest : List ℕ) → drop at b ≡ bytesOf es ++ rest → ((i : ℕ) → getD es i 0 < 18446744073709551616)
+pub numbers-from : (es : List ℕ) (m at : ℕ) (b rest : List ℕ) → drop at b ≡ bytesOf es ++ rest → ((i : ℕ) → getD es i 0 < 18446744073709551616)
     → numbersFrom (length es + m) at b ≡ es ++ numbersFrom m (at + 8 * length es) b
 unfolding numbersFrom bytesOf
 numbers-from [] m at b rest d g = let j : 0 + m ≡ m = omega arith in let k : at + 0 ≡ at = omega arith in rw (j, k)
@@ -79,11 +79,11 @@ called-told block o n q = by (leb 200 (length block)) refl o n q
 
 module _ (block after : List ℕ) (r : ℕ) (o : Result L.Answer) (p : r ≡ numberOf block (answerAs o)) (p' : after ≡ blockAfter block (answerAs o)) (y : L.Answer) (e : o ≡ ok y)
     (long : 200 ≤ length block) where
-  called-zero : r ≡ 0
+  pub called-zero : r ≡ 0
   unfolding numberPut
   called-zero = p ∙ rw (e, le-leb 200 (length block) long)
 
-  called-at : (i : ℕ) → i < length (numbersOf (answerAs (ok y))) → getD (numbersOf (answerAs (ok y))) i 0 < 18446744073709551616 → inBlock i after ≡ getD (numbersOf (answerAs (ok y))) i 0
+  pub called-at : (i : ℕ) → i < length (numbersOf (answerAs (ok y))) → getD (numbersOf (answerAs (ok y))) i 0 < 18446744073709551616 → inBlock i after ≡ getD (numbersOf (answerAs (ok y))) i 0
   unfolding blockPut
   called-at i h g = rw (p', e, le-leb 200 (length block) long) (number-in (numbersOf (answerAs (ok y))) (drop 200 block) i h g)
 

@@ -36,7 +36,7 @@ use Rattle.wire.proofs.Cursor.read_string_set.Kinds as read-string-set-kinds
 use Rattle.lintelow.specs.RoundTrips.{Has, Limited, SameStrings, StringAnswered, OutputAnswered}
 use Rattle.lintelow.proofs.TripLaws.{bytes-trip, text-trip, set-trip, bytes-again, text-again, set-again}
 
-length-is : (w : Written) (n : ℕ) → meaning w ≡ ok n → w ≡ Length n
+pub length-is : (w : Written) (n : ℕ) → meaning w ≡ ok n → w ≡ Length n
 length-is w n e = once w (Length n) (ok n) [] [] [] (e, refl) (refl, refl) .0
 
 -- ---- strings: a call of `write_string` or `write_bytes`, and one of `read_string` or `read_bytes`

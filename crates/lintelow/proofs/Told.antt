@@ -195,7 +195,7 @@ module _ (block : List ℕ) where
   read-fills o w number t new lent out e z = fills-by (leb 200 (length block)) o number new lent out (verdict-numbered w) t e z
 
 -- ---- strings by entries of sixteen bytes
-from-length : (n at : ℕ) (b : List ℕ) → length (numbersFrom n at b) ≡ n
+pub from-length : (n at : ℕ) (b : List ℕ) → length (numbersFrom n at b) ≡ n
 unfolding numbersFrom
 from-length zero at b = refl
 from-length (suc n) at b = ap suc (from-length n (at + 8) b)

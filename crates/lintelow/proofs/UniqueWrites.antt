@@ -23,6 +23,8 @@ use Rattle.lintelow.proofs.writes.lintelow_write_paths.Reads as write-p
 use Rattle.lintelow.proofs.writes.lintelow_write_paths.Kinds as write-paths-kinds
 use Rattle.lintelow.proofs.writes.lintelow_write_overrides.Reads as write-overrides
 use Rattle.lintelow.proofs.writes.lintelow_write_overrides.Kinds as write-overrides-kinds
+use Rattle.lintelow.proofs.writes.lintelow_write_op_args.Reads as write-op-args
+use Rattle.lintelow.proofs.writes.lintelow_write_op_args.Kinds as write-op-args-kinds
 
 pub write-u64-unique : (κs : Lfts 2) (a : Dens κs write-u64-kinds.ps) (r r′ : ℕ) (x x′ : AtExit (endedOf 2 write-u64-kinds.ps write-u64-kinds.r) κs)
     → write-u64.Post κs a r x → write-u64.Post κs a r′ x′ → (r ≡ r′) × (now (x .1 .1 .0) ≡ now (x′ .1 .1 .0)) × (now (x .0) ≡ now (x′ .0))
@@ -59,3 +61,7 @@ write-paths-unique κs a r r′ x x′ p q = (p .0 ∙ sym (q .0), p .1 .0 ∙ s
 pub write-overrides-unique : (κs : Lfts 2) (a : Dens κs write-overrides-kinds.ps) (r r′ : ℕ) (x x′ : AtExit (endedOf 2 write-overrides-kinds.ps write-overrides-kinds.r) κs)
     → write-overrides.Post κs a r x → write-overrides.Post κs a r′ x′ → (r ≡ r′) × (now (x .1 .1 .0) ≡ now (x′ .1 .1 .0)) × (now (x .0) ≡ now (x′ .0))
 write-overrides-unique κs a r r′ x x′ p q = (p .0 ∙ sym (q .0), p .1 .0 ∙ sym (q .1 .0), p .1 .1 ∙ sym (q .1 .1))
+
+pub write-op-args-unique : (κs : Lfts 6) (a : Dens κs write-op-args-kinds.ps) (r r′ : ℕ) (x x′ : AtExit (endedOf 6 write-op-args-kinds.ps write-op-args-kinds.r) κs)
+    → write-op-args.Post κs a r x → write-op-args.Post κs a r′ x′ → (r ≡ r′) × (now (x .1 .1 .1 .1 .1 .1 .1 .1 .0) ≡ now (x′ .1 .1 .1 .1 .1 .1 .1 .1 .0)) × (now (x .1 .1 .1 .1 .1 .1 .1 .0) ≡ now (x′ .1 .1 .1 .1 .1 .1 .1 .0))
+write-op-args-unique κs a r r′ x x′ p q = (p .0 ∙ sym (q .0), p .1 .0 ∙ sym (q .1 .0), p .1 .1 .0 ∙ sym (q .1 .1 .0))

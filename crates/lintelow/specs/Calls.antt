@@ -12,7 +12,9 @@ use Rattle.layouts.specs.Stderr.{stderrLoop, readStderrWithError, errorPieces}
 use Rattle.layouts.specs.Handshake.{hear, heardEntries, handshake, daemonHandshake, parseHandshake, parseDaemonHandshake}
 use Rattle.layouts.specs.Writers.{textsOf, writeStringSet, outputOf}
 use Rattle.writers_output.specs.Numbers.{bytesOf}
-use Rattle.entries.specs.Entries.{entriesIn}
+use Rattle.layouts.specs.CallWriter.{callBytes, writeOpArgs}
+use Rattle.entries.specs.Entries.{numbersFrom, entriesIn}
+use Rattle.writers_calls.specs.Calls.{bytesOr}
 use Rattle.walk_judge.specs.declared.Answer.{Answer}
 use Rattle.walk_judge.specs.Judged.{answerAs}
 use Rattle.wire.specs.Answers.{setEntries, framedPayload}
@@ -80,3 +82,9 @@ framedCalled s at payload block = called block (λ o. answerAs (ended o)) (readF
 abbrev pub setWritten : (bytes entries : List ℕ) → (count : ℕ) → (out block : List ℕ) → Called
 setWritten bytes entries count out block =
     called block (λ o. answerAs (written o)) (writeStringSet bytes (entriesIn entries) count out) (outputOf (textsOf bytes (entriesIn entries) count)) out
+
+-- the fifteen numbers of a record as they stand in a block; bytes that it lacks are 0
+abbrev pub callWritten : (op : ℕ) → Version → (numbers bytes entries payload out block : List ℕ) → Called
+callWritten op v numbers bytes entries payload out block =
+    called block (λ o. answerAs (written o)) (writeOpArgs op v (numbersFrom 15 0 numbers) bytes (entriesIn entries) payload out)
+    (bytesOr (callBytes op v (numbersFrom 15 0 numbers) bytes (entriesIn entries) payload)) out

@@ -2,13 +2,14 @@
 ghost use mathlib.Core.Path.{_≡_};
 ghost use Prim.Native.Nat.{_<_};
 ghost use lib.ListN.{length};
-ghost use Rattle.layouts.specs.Primitive.{littleEnd, numberBytes};
+ghost use Rattle.layouts.specs.Primitive.{version, littleEnd, numberBytes};
 ghost use Rattle.layouts.specs.Judge.{lentAfter};
+ghost use Rattle.layouts.specs.Demands.{Held};
 ghost use Rattle.layouts.specs.Writers.{writing, stringBytes, framedBytes, modeText, pathsText, overridesText, writeString};
 ghost use Rattle.walk_judge.specs.Judged.{answerAs};
 ghost use Rattle.lintelow_answers.specs.Answers.{written};
 ghost use Rattle.lintelow_answers.specs.Block.{guarded, numberOf, blockAfter};
-ghost use Rattle.lintelow.specs.Calls.{setWritten};
+ghost use Rattle.lintelow.specs.Calls.{setWritten, callWritten};
 
 #[no_mangle]
 pub extern "C" fn lintelow_write_u64(out: &mut [u8], x: u64, block: &mut [u8]) -> u64
@@ -131,5 +132,43 @@ pub extern "C" fn lintelow_write_overrides(out: &mut [u8], n: u64, block: &mut [
         return layouts::OUTPUT_FULL;
     }
     let r = writers::write_overrides(out, n);
+    lintelow_answers::put(block, lintelow_answers::write(r))
+}
+
+// The output stands behind what is read, other than in the writers above.
+#[no_mangle]
+pub extern "C" fn lintelow_write_op_args(
+    op: u64,
+    major: u16,
+    minor: u8,
+    record: &[u8],
+    bytes: &[u8],
+    entries: &[u8],
+    payload: &[u8],
+    out: &mut [u8],
+    block: &mut [u8],
+) -> u64
+    ensures number { λ r. ⌜ r
+        ≡ callWritten op (version major minor) (now («record» .entry)) (now (bytes .entry)) (now (entries .entry)) (now (payload .entry)) (now (out .entry)) (now (block .entry)) .number ⌝ }
+    ensures block { λ r. ⌜ now (block .exit)
+        ≡ callWritten op (version major minor) (now («record» .entry)) (now (bytes .entry)) (now (entries .entry)) (now (payload .entry)) (now (out .entry)) (now (block .entry)) .block ⌝ }
+    ensures out { λ r. ⌜ now (out .exit)
+        ≡ callWritten op (version major minor) (now («record» .entry)) (now (bytes .entry)) (now (entries .entry)) (now (payload .entry)) (now (out .entry)) (now (block .entry)) .room ⌝ }
+    ensures size { λ r. ⌜ length (now (out .entry)) < 9223372036854775808 ⌝ }
+    ensures held { λ r. ⌜ Held (now («record» .entry)) ⌝ }
+{
+    if block.len() < lintelow_answers::BLOCK {
+        return layouts::OUTPUT_FULL;
+    }
+    let r = writers_calls::write_op_args_bytes(
+        op,
+        major,
+        minor,
+        record,
+        bytes,
+        entries,
+        payload,
+        out,
+    );
     lintelow_answers::put(block, lintelow_answers::write(r))
 }

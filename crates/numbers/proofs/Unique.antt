@@ -1,4 +1,5 @@
 -- Each public contract, as Rattle reads it off the source, determines its answer and the lent part at exit.
+use Prim.Native.Nat.{ℕ}
 use mathlib.Core.Path.{_≡_, sym, _∙_}
 use contract.Lifetimes.{Lfts}
 use borrow.Fn.Kinds.{Dens, endedOf}
@@ -14,6 +15,8 @@ use Rattle.numbers.proofs.write.Reads as write
 use Rattle.numbers.proofs.write.Kinds as write-kinds
 use Rattle.numbers.proofs.write_four.Reads as write-four
 use Rattle.numbers.proofs.write_four.Kinds as write-four-kinds
+use Rattle.numbers.proofs.wide.Reads as wide
+use Rattle.numbers.proofs.wide.Kinds as wide-kinds
 
 pub read-determined : (κs : Lfts 1) (a : Dens κs read-kinds.ps) (r r' : Number) (x x' : AtExit (endedOf 1 read-kinds.ps read-kinds.r) κs)
     → read.Post κs a r x → read.Post κs a r' x' → r ≡ r'
@@ -30,3 +33,7 @@ write-determined κs a r r' x x' p q = (p .0 ∙ sym (q .0), p .1 ∙ sym (q .1)
 pub write-four-determined : (κs : Lfts 1) (a : Dens κs write-four-kinds.ps) (r r' : Bool) (x x' : AtExit (endedOf 1 write-four-kinds.ps write-four-kinds.r) κs)
     → write-four.Post κs a r x → write-four.Post κs a r' x' → (r ≡ r') × (now (x .0) ≡ now (x' .0))
 write-four-determined κs a r r' x x' p q = (p .0 ∙ sym (q .0), p .1 ∙ sym (q .1))
+
+pub wide-determined : (κs : Lfts 0) (a : Dens κs wide-kinds.ps) (r r' : ℕ) (x x' : AtExit (endedOf 0 wide-kinds.ps wide-kinds.r) κs)
+    → wide.Post κs a r x → wide.Post κs a r' x' → r ≡ r'
+wide-determined κs a r r' x x' p q = p .0 ∙ sym (q .0)

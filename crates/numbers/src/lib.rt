@@ -12,7 +12,7 @@ pub enum Number {
     Short,
 }
 
-fn wide(b: u8) -> u64
+pub fn wide(b: u8) -> u64
     ensures { λ r. ⌜ (r ≡ b) × (r < 256) ⌝ }
 {
     b as u64

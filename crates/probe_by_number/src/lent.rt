@@ -61,6 +61,22 @@ pub fn part(s: &[u8], from: usize, n: usize) -> &[u8] {
     &s[from..to]
 }
 
+// The first n bytes, or all where there are fewer.
+pub fn first(s: &[u8], n: usize) -> &[u8] {
+    if n <= s.len() {
+        return &s[..n];
+    }
+    s
+}
+
+// What follows the first n bytes.
+pub fn behind(s: &[u8], n: usize) -> &[u8] {
+    if n <= s.len() {
+        return &s[n..];
+    }
+    &s[..0]
+}
+
 // The eight bytes at a place as a number.
 pub fn number(s: &[u8], at: usize) -> u64 {
     if s.len() < at {

@@ -11,6 +11,9 @@ pub const NO_CALL: u64 = 99;
 
 pub const ENTRY_VIEW: u64 = 32;
 
+// The record of a call to be written: twelve numbers and three counts.
+const RECORD: usize = 120;
+
 // `operation` is also the number that a call takes.
 pub struct Call {
     pub number: u64,
@@ -85,6 +88,24 @@ fn writer(call: u64, x: u64, a: &[u8], b: &[u8], room: &mut [u8], block: &mut [u
     }
 }
 
+// b is the record, the length of the entries, the entries and the payload.
+fn call_writer(c: Call, a: &[u8], b: &[u8], room: &mut [u8], block: &mut [u8]) -> u64 {
+    let rest = lent::behind(b, RECORD);
+    let n = lent::number(rest, 0) as usize;
+    let strings = lent::behind(rest, 8);
+    writes::lintelow_write_op_args(
+        c.operation,
+        c.major,
+        c.minor,
+        lent::first(b, RECORD),
+        a,
+        lent::first(strings, n),
+        lent::behind(strings, n),
+        room,
+        block,
+    )
+}
+
 // A view's entries are b.
 fn test(call: u64, x: u64, a: &[u8], b: &[u8], block: &mut [u8]) -> u64 {
     match call {
@@ -110,6 +131,7 @@ pub fn answer(
         9..=18 => reader(number, a, entries, room, block),
         20..=28 => writer(number, c.operation, a, b, room, block),
         30..=33 => test(number, c.operation, a, b, block),
+        34 => call_writer(c, a, b, room, block),
         _ => NO_CALL,
     }
 }

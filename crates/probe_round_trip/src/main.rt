@@ -1,7 +1,10 @@
-// Writes strings, a set and framed data, reads them back, and says what came back. A string of 268,435,456 bytes does not fit in a test's memory;
+// Writes strings, a set, framed data and calls, reads them back, and says what came back. A string of 268,435,456 bytes does not fit in a test's memory;
 // the theorems speak of it, and here a string of 1 MiB is run.
 ghost use Prim.Native.Nat.{_≤_};
+use layouts::Record;
 use layouts::Refusal;
+use walk_judge::Answer;
+use walk_judge::Outcome;
 use wire::Cursor;
 use wire::Read;
 use wire::Spanned;
@@ -10,6 +13,9 @@ use writers::Written;
 const MIB: usize = 1048576;
 
 const MIB_WRITTEN: usize = 1048584;
+
+// Room for a call.
+const CALL: usize = 160;
 
 fn say(words: &[u8]) {
     io::write_all(1, words);
@@ -244,6 +250,92 @@ fn texts() {
     paths(b"10 paths: ", 10);
 }
 
+// Numbers 0 and 1, and a count.
+fn record(first: u64, second: u64, count: u64) -> Record {
+    Record {
+        numbers: [first, second, 0, 0, 0, 0, 0, 0, 0, 0, 0, 0],
+        counts: [count, 0, 0],
+        present: false,
+        entries: 0,
+        payload: 0,
+    }
+}
+
+// Written, and read back.
+fn call(words: &[u8], op: u64, minor: u8, record: Record, payload: &[u8]) {
+    say(words);
+    let mut out = [0u8; CALL];
+    let w = writers_calls::write_op_args(
+        op,
+        1,
+        minor,
+        record,
+        b"bin7silo",
+        &[0u64, 4, 4, 4, 0, 8],
+        payload,
+        &mut out,
+    );
+    match w {
+        Written::Length(_) => {
+            written(w);
+            call_back(op, minor, &out);
+        }
+        Written::Refused(r) => refused(r),
+    }
+}
+
+fn call_back(op: u64, minor: u8, out: &[u8]) {
+    let mut found = [0u64; 8];
+    let mut room = [0u8; 8];
+    let a = protocol::read_op_args(op, 1, minor, out, &mut found, &mut room);
+    let o = a.outcome;
+    match o {
+        Outcome::Fine => call_again(op, minor, a, out, &found, &room),
+        Outcome::Refused(r) => refused(r),
+    }
+}
+
+// The first n bytes, or all where there are fewer.
+fn first(s: &[u8], n: usize) -> &[u8] {
+    if n <= s.len() {
+        return &s[..n];
+    }
+    s
+}
+
+// What was read, written again from the stream and its entries.
+fn call_again(op: u64, minor: u8, a: Answer, out: &[u8], found: &[u64], room: &[u8]) {
+    let record = a.found;
+    tell(b"kind ", a.kind);
+    tell(b"ends ", a.ends as u64);
+    tell(b"strings ", record.entries as u64);
+    let mut again = [0u8; CALL];
+    written(writers_calls::write_op_args(
+        op,
+        1,
+        minor,
+        record,
+        out,
+        found,
+        first(room, record.payload),
+        &mut again,
+    ));
+    compared(out, &again);
+}
+
+fn calls() {
+    call(b"IsValidPath: ", 1, 38, record(0, 0, 0), b"");
+    call(b"SyncWithGC: ", 13, 38, record(0, 0, 0), b"");
+    call(b"SetOptions at 1.9: ", 19, 9, record(1, 2, 0), b"");
+    call(b"SetOptions: ", 19, 38, record(1, 2, 1), b"");
+    call(b"CollectGarbage: ", 20, 38, record(3, 1, 2), b"");
+    call(b"AddSignatures: ", 37, 38, record(0, 0, 2), b"");
+    call(b"AddToStore: ", 7, 25, record(1, 0, 1), b"ab");
+    call(b"AddToStore at 1.24: ", 7, 24, record(1, 0, 1), b"ab");
+    call(b"a flag at 1.26: ", 31, 26, record(1, 0, 2), b"");
+    call(b"too few entries: ", 37, 38, record(0, 0, 3), b"");
+}
+
 fn line(s: &[u8], n: usize) {
     if n <= s.len() {
         io::write_all(1, &s[..n]);
@@ -258,4 +350,5 @@ fn main() {
     framed();
     a_large_count();
     texts();
+    calls();
 }

@@ -6,8 +6,9 @@ use mathlib.Core.List.{List, [], _∷_, map}
 use native.Mathlib.Omega.{arith}
 use borrow.Author.Tests.{eqb-true}
 use lib.Dec.{eqb}
-use Rattle.layouts.specs.Primitive.{pick, Version, ok, refused}
-use Rattle.layouts.specs.Shape.{layout, fail}
+use Rattle.layouts.specs.Primitive.{pick, Version, unknownOperation, noArguments, Result, ok, refused}
+use Rattle.layouts.specs.Shape.{What, Group, once, opt, many, layout, fail}
+use Rattle.layouts.specs.CallWriter.{fieldsThere, fieldsBy, callFields}
 use Rattle.layouts.specs.Operations.{argumentsNumber, replyNumber, skippedNumber, Kinds, none, only, byVersion, byFlag, byNumber, kindOf, skippedKind, Operation, Row, row, unknown, rowIf, operations}
 use Rattle.layouts.specs.Operations as O
 use Rattle.layouts.specs.Calls.{argumentsTree, skippedTree, replyTree, kindBy, argumentsKinds, skippedKinds, replyKinds, hasFramed, opHasClientFramedData}
@@ -16,7 +17,7 @@ use Rattle.table.specs.declared.Found.{Found}
 use Rattle.table.specs.declared.Found.the-variants as F
 use Rattle.table.specs.Packed.{rows}
 use Rattle.table.specs.Numbered.{Numbered, numberedValue}
-use Rattle.table.specs.Table.{groupsAt, findIn, rowFor, rowIn, rowAt, kindNumbered}
+use Rattle.table.specs.Table.{groupsAt, findIn, rowFor, rowIn, rowAt, numberedOf, kindNumbered}
 use Rattle.table.specs.Claims.{numbered, Said, said, wanted, rows-say}
 
 -- ---- both searches find the same
@@ -55,7 +56,19 @@ numbered-value v b (only k) = refl
 numbered-value v b (byVersion x k l) = rw (numbered-value v b k, numbered-value v b l)
 numbered-value v b (byFlag k l) = rw (numbered-value v b k, numbered-value v b l)
 
+-- the fields of a layout that begins with them
+abbrev pub firstFields : Version → List Group → List What
+firstFields v [] = []
+firstFields v (once xs ∷ gs) = fieldsThere v xs
+firstFields v (opt i xs ∷ gs) = []
+firstFields v (many i xs ∷ gs) = []
+
+-- what a call is written of, from a group on, where its kind has this code
+abbrev pub fieldsFor : Version → (i k : ℕ) → Result (List What)
+fieldsFor v i k = pick (eqb (kindNumbered v false k) 0) (refused noArguments 0 0) (ok (firstFields v (groupsAt i)))
+
 pub record Says (op : ℕ) (r : R.Row) : Type 0 where
+  pub call : (v : Version) → callFields op v ≡ fieldsFor v (r .arguments) (r .«arguments_kind»)
   pub arguments : (v : Version) → argumentsTree op v ≡ layout v (groupsAt (r .arguments))
   pub skips : (v : Version) → skippedTree op v ≡ layout v (groupsAt (r .skipped))
   pub reply : (v : Version) → replyTree op v ≡ layout v (groupsAt (r .reply))
@@ -65,6 +78,7 @@ pub record Says (op : ℕ) (r : R.Row) : Type 0 where
   pub sendsFrames : opHasClientFramedData op ≡ ok (hasFramed op)
 
 pub record Refuses (op : ℕ) : Type 0 where
+  pub call : (v : Version) → callFields op v ≡ refused unknownOperation 0 0
   pub arguments : (v : Version) → argumentsTree op v ≡ fail 9 0
   pub skips : (v : Version) → skippedTree op v ≡ fail 9 0
   pub reply : (v : Version) → replyTree op v ≡ fail 9 0
@@ -75,11 +89,20 @@ module _ (op : ℕ) where
       → kindOf v b (kindBy (O.find op) k) ≡ numberedValue v b n
   kind-by v b o k n e q = rw (e, q) (numbered-value v b (k o))
 
+  call-by : (v : Version) (r : R.Row) (o : Operation) → O.find op ≡ row o → said r ≡ wanted o → callFields op v ≡ fieldsFor v (r .arguments) (r .«arguments_kind»)
+  unfolding callFields
+  call-by v r o e q =
+      ap (λ (y : Row). fieldsBy y op v) e
+      ∙ ap (λ (n : ℕ). pick (eqb n 0) (refused noArguments 0 0) (ok (fieldsThere v (o .arguments))))
+      (kind-by v false o (λ o. byNumber argumentsNumber (o .argumentsKind)) (numberedOf (r .«arguments_kind»)) e (ap (λ (x : Said). x .argumentsKind) q))
+      ∙ ap (λ (x : Said). pick (eqb (kindNumbered v false (r .«arguments_kind»)) 0) (refused noArguments 0 0) (ok (firstFields v (x .arguments)))) (sym q)
+
   says-by : (r : R.Row) (x : Row) → O.find op ≡ x → Match op (F.Row r) x → Says op r
   unfolding argumentsTree skippedTree replyTree opHasClientFramedData
   says-by r unknown e m = absurd m
   says-by r (row o) e m =
       record {
+        call = λ v. call-by v r o e (m .0);
         arguments = λ v. rw e (ap (λ (x : Said). layout v (x .arguments)) (sym (m .0)));
         skips = λ v. rw e (ap (λ (x : Said). layout v (x .skips)) (sym (m .0)));
         reply = λ v. rw e (ap (λ (x : Said). layout v (x .reply)) (sym (m .0)));
@@ -90,9 +113,9 @@ module _ (op : ℕ) where
       }
 
   refuses-by : (x : Row) → O.find op ≡ x → Match op F.Unknown x → Refuses op
-  unfolding argumentsTree skippedTree replyTree opHasClientFramedData
+  unfolding callFields argumentsTree skippedTree replyTree opHasClientFramedData
   refuses-by (row o) e m = absurd m
-  refuses-by unknown e m = record { arguments = λ v. rw e; skips = λ v. rw e; reply = λ v. rw e; sendsFrames = rw e }
+  refuses-by unknown e m = record { call = λ v. rw e; arguments = λ v. rw e; skips = λ v. rw e; reply = λ v. rw e; sendsFrames = rw e }
 
   matched : (x y : Found) → x ≡ rowFor op → x ≡ y → Match op y (O.find op)
   matched x y e q = subst (λ (z : Found). Match op z (O.find op)) (sym e ∙ q) (match-found op)

@@ -11,7 +11,8 @@ use Rattle.table.specs.declared.Row.{Row}
 use Rattle.table.specs.declared.Found.{Found}
 use Rattle.table.specs.declared.Found.the-variants as F
 use Rattle.table.specs.Table.{groupsAt, rowFor, kindNumbered}
-use Rattle.table.proofs.Rows.{Says, Refuses, found-says, unknown-refuses}
+use Rattle.layouts.specs.CallWriter.{callFields}
+use Rattle.table.proofs.Rows.{fieldsFor, Says, Refuses, found-says, unknown-refuses}
 use Rattle.table_operations.specs.declared.Shape.{Shape}
 use Rattle.table_operations.specs.declared.Shape.the-variants.{Unknown, At}
 use Rattle.table_operations.specs.Rows.{shapeOf, argumentsOf, skippedOf, replyOf}
@@ -45,6 +46,9 @@ module _ (op : ℕ) (x : Shape) where
 
   pub arguments-say : (i k : ℕ) → x ≡ argumentsOf (rowFor op) → x ≡ At i k → Shaped (argumentsTree op) (argumentsKinds op) i k
   arguments-say i k e q = shape-says _ _ e (Shaped _ _) i k (λ r s. record { tree = s .arguments; kind = s .argumentsKind }) q
+
+  pub call-says : (i k : ℕ) → x ≡ argumentsOf (rowFor op) → x ≡ At i k → (v : Version) → callFields op v ≡ fieldsFor v i k
+  call-says i k e q v = shape-says _ _ e (λ (i k : ℕ). callFields op v ≡ fieldsFor v i k) i k (λ r s. s .call v) q
 
   pub skipped-say : (i k : ℕ) → x ≡ skippedOf (rowFor op) → x ≡ At i k → Shaped (skippedTree op) (skippedKinds op) i k
   skipped-say i k e q = shape-says _ _ e (Shaped _ _) i k (λ r s. record { tree = s .skips; kind = s .skippedKind }) q

@@ -115,7 +115,7 @@ module _ (v : Version) (gate minor : ℕ) (w : What) where
   there-by false true = refl
   there-by false false = refl
 
-  there-item : there v (itemOf gate minor w) ≡ isThere v gate minor
+  pub there-item : there v (itemOf gate minor w) ≡ isThere v gate minor
   unfolding itemOf
   there-item = there-by (eqb gate 0) (eqb gate 1)
 
@@ -124,7 +124,7 @@ module _ (v : Version) (gate minor : ℕ) (w : What) where
   what-by false true = refl
   what-by false false = refl
 
-  what-item : what (itemOf gate minor w) ≡ w
+  pub what-item : what (itemOf gate minor w) ≡ w
   unfolding itemOf
   what-item = what-by (eqb gate 0) (eqb gate 1)
 

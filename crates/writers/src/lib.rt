@@ -65,6 +65,13 @@ fn framed_length(n: usize) -> usize
     n + 8 * ((n + 32767) / 32768) + 8
 }
 
+// How many bytes c takes as framed data.
+pub fn framed_size(c: &[u8]) -> usize
+    ensures { λ r. ⌜ r ≡ length (framedBytes (now (c .entry))) ⌝ }
+{
+    framed_length(c.len())
+}
+
 fn least(a: usize, b: usize) -> usize
     ensures { λ r. ⌜ r ≡ min a b ⌝ }
 {

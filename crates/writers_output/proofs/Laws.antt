@@ -55,13 +55,13 @@ module _ (at : ℕ) (c out : List ℕ) where
       go false = refl
 
 -- ---- a part &mut out[at..] that is lent and comes back with vs at its start
-part-tail : (out : List ℕ) (at : ℕ) → take (length out - at) (drop at out) ≡ drop at out
+pub part-tail : (out : List ℕ) (at : ℕ) → take (length out - at) (drop at out) ≡ drop at out
 part-tail out at = take-all (length out - at) (drop at out) (simp length-drop (omega arith))
 
 part-none : (out : List ℕ) (at : ℕ) → drop (length out - at) (drop at out) ≡ []
 part-none out at = drop-of-length-le (drop at out) {i = length out - at} (simp length-drop (omega arith))
 
-put-back : (out vs ys : List ℕ) (at : ℕ) → at + length vs ≤ length out → ys ≡ vs ++ drop (length vs) (drop at out)
+pub put-back : (out vs ys : List ℕ) (at : ℕ) → at + length vs ≤ length out → ys ≡ vs ++ drop (length vs) (drop at out)
     → take at out ++ (ys ++ drop (length out - at) (drop at out)) ≡ placed at vs out
 put-back out vs ys at h e = simp (part-none out at, append-nil, e, drop-drop, placed-fits at vs out h, sets-eq vs out at h, append-assoc)
 
@@ -105,11 +105,12 @@ eightZeros = replicate 8 0
 zeros : (k : ℕ) → k < 8 → take k eightZeros ≡ replicate k 0
 zeros k h = take-same k 8 0 (omega arith)
 
-pub zeros-length : (k : ℕ) → k < 8 → k ≡ length (take k eightZeros)
-zeros-length k h = sym (ap length (zeros k h) ∙ length-replicate k 0)
+pub eight-length : (x k : ℕ) → k < 8 → k ≡ length (take k (replicate 8 x))
+eight-length x k h = sym (ap length (take-same k 8 x (omega arith)) ∙ length-replicate k x)
 
-pub zeros-put : (out out' : List ℕ) (at k n : ℕ) → k ≡ padOf n → k < 8 → out' ≡ placed at (take k eightZeros) out → out' ≡ placed at (replicate (padOf n) 0) out
-zeros-put out out' at k n e h f = f ∙ ap (λ (c : List ℕ). placed at c out) (zeros k h ∙ ap (λ (j : ℕ). replicate j 0) e)
+pub zeros-put : (out out' l : List ℕ) (at k n : ℕ) → k ≡ padOf n → k < 8 → out' ≡ placed at (take k l) out → l ≡ eightZeros → out' ≡ placed at (replicate (padOf n) 0) out
+zeros-put out out' l at k n e h f g =
+    f ∙ ap (λ (c : List ℕ). placed at (take k c) out) g ∙ ap (λ (c : List ℕ). placed at c out) (zeros k h ∙ ap (λ (j : ℕ). replicate j 0) e)
 
 pub length-counted : (c : List ℕ) → length (numberBytes (length c) ++ c) ≡ 8 + length c
 length-counted c = simp (length-append, length-number)

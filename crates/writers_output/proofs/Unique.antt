@@ -2,6 +2,7 @@
 use Prim.Native.Nat.{ℕ}
 use mathlib.Core.Path.{_≡_, refl, sym, ap, _∙_}
 use mathlib.Core.List.{List}
+use mathlib.Core.Bool.{Bool}
 use contract.Lifetimes.{Lfts}
 use borrow.Fn.Kinds.{Dens, endedOf}
 use denote.Triple.Clauses.{AtExit}
@@ -21,6 +22,8 @@ use Rattle.writers_output.proofs.put_string.Reads as put-string
 use Rattle.writers_output.proofs.put_string.Kinds as put-string-kinds
 use Rattle.writers_output.proofs.string_length.Reads as string-length
 use Rattle.writers_output.proofs.string_length.Kinds as string-length-kinds
+use Rattle.writers_output.proofs.has_room.Reads as has-room
+use Rattle.writers_output.proofs.has_room.Kinds as has-room-kinds
 
 abbrev answerOf : Result ℕ → Written
 answerOf (ok n) = Length n
@@ -30,7 +33,7 @@ answer-of : (v : Written) → answerOf (meaning v) ≡ v
 answer-of (Length n) = refl
 answer-of (Refused r) = refl
 
-meaning-once : (v w : Written) → meaning v ≡ meaning w → v ≡ w
+pub meaning-once : (v w : Written) → meaning v ≡ meaning w → v ≡ w
 meaning-once v w e = sym (answer-of v) ∙ ap answerOf e ∙ answer-of w
 
 pub once : (v w : Written) (r : Result ℕ) (o o' l : List ℕ) → (meaning v ≡ r) × (o ≡ l) → (meaning w ≡ r) × (o' ≡ l) → (v ≡ w) × (o ≡ o')
@@ -56,3 +59,7 @@ put-string-once κs a r r′ x y p q = p ∙ sym q
 pub string-length-once : (κs : Lfts 1) (a : Dens κs string-length-kinds.ps) (r r′ : ℕ) (x y : AtExit (endedOf 1 string-length-kinds.ps string-length-kinds.r) κs)
     → string-length.Post κs a r x → string-length.Post κs a r′ y → r ≡ r′
 string-length-once κs a r r′ x y p q = p ∙ sym q
+
+pub has-room-once : (κs : Lfts 0) (a : Dens κs has-room-kinds.ps) (r r′ : Bool) (x y : AtExit (endedOf 0 has-room-kinds.ps has-room-kinds.r) κs)
+    → has-room.Post κs a r x → has-room.Post κs a r′ y → r ≡ r′
+has-room-once κs a r r′ x y p q = p ∙ sym q

@@ -16,7 +16,7 @@ pub enum Written {
 }
 
 // Do n bytes fit at a place?
-fn has_room(size: usize, at: usize, n: usize) -> bool
+pub fn has_room(size: usize, at: usize, n: usize) -> bool
     ensures { λ r. ⌜ r ≡ leb (at + n) size ⌝ }
 {
     if at <= size {

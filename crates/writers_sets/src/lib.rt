@@ -1,12 +1,12 @@
 // The writer of sets of strings. The strings are entries of some bytes, in either form, the other one lent empty; all is judged before anything is written.
 ghost use mathlib.Core.Path.{_≡_};
-ghost use Prim.Native.Nat.{_+_, _≤_, _<_};
+ghost use Prim.Native.Nat.{_-_, _≤_};
 ghost use lib.ListN.{length};
-ghost use Rattle.layouts.specs.Writers.{viewOf, partOf, stringBytes, setBytes, textsOf, writeStringSet};
+ghost use Rattle.layouts.specs.Writers.{setBytes, textsFrom, textsOf, writeStringSet};
 ghost use Rattle.writers_output.specs.Answer.{meaning};
 ghost use Rattle.writers_output.specs.Placed.{placed};
 ghost use Rattle.entries.specs.Entries.{entriesIn, numbersIn};
-ghost use Rattle.writers_sets.specs.Sets.{fitting, textTaken, entryTaken, grown, setJudged, partsFrom, setOutput};
+ghost use Rattle.writers_sets.specs.Sets.{fitting, textTaken, entryTaken, grown, stringsJudged, setJudged, partsFrom, stringsPut, setOutput};
 use entries::Located;
 use writers_output::Written;
 
@@ -33,16 +33,18 @@ fn judge_entry(s: &[u8], words: &[u64], bytes: &[u8], i: usize) -> Written
     }
 }
 
-// The sum, or any number above the room where it passes the room: entries may overlap, so the sum itself can pass 2^64.
-fn grow(room: usize, total: usize, n: usize) -> usize
-    requires { ⌜ room < 9223372036854775808 ⌝ }
+// More than any room.
+const BEYOND: usize = 18446744073709551615;
+
+// The sum, or more than any room where it passes this one: entries may overlap, so the sum itself can pass 2^64.
+pub fn grow(room: usize, total: usize, n: usize) -> usize
     ensures { λ r. ⌜ r ≡ grown room total n ⌝ }
 {
     if room < total {
         return total;
     }
     if room - total < n {
-        return room + 1;
+        return BEYOND;
     }
     total + n
 }
@@ -56,15 +58,19 @@ fn fit(n: usize, room: usize) -> Written
     Written::Length(n)
 }
 
-// The set's length, or the refusal; nothing is written yet.
-fn judge_set(s: &[u8], words: &[u64], bytes: &[u8], count: usize, room: usize) -> Written
-    requires { ⌜ room < 9223372036854775808 ⌝ }
-    ensures { λ r. ⌜ meaning r ≡ setJudged room (textsOf (now (s .entry)) (numbersIn (now (words .entry)) (now (bytes .entry))) count) ⌝ }
+// How many bytes the first entries take as strings behind some other bytes of an output, or the refusal; nothing is written yet.
+pub fn judge_strings(
+    out: &[u8],
+    before: usize,
+    s: &[u8],
+    words: &[u64],
+    bytes: &[u8],
+    count: usize,
+) -> Written
+    ensures { λ r. ⌜ meaning r ≡ stringsJudged (length (now (out .entry))) before (textsFrom (now (s .entry)) (numbersIn (now (words .entry)) (now (bytes .entry))) count 0) ⌝ }
 {
-    if entries::slots(words, bytes) < count {
-        return Written::Refused(layouts::refuse(layouts::NO_SUCH_ENTRY, count));
-    }
-    let mut total = 8;
+    let room = out.len();
+    let mut total = before;
     let mut i = 0;
     while i < count {
         let taken = judge_entry(s, words, bytes, i);
@@ -77,15 +83,42 @@ fn judge_set(s: &[u8], words: &[u64], bytes: &[u8], count: usize, room: usize) -
     fit(total, room)
 }
 
-// Entry i as a string; the place after it.
-fn put_entry(out: &mut [u8], at: usize, s: &[u8], words: &[u64], bytes: &[u8], i: usize) -> usize
-    requires { ⌜ at + length (stringBytes (partOf (viewOf (now s) (numbersIn (now words) (now bytes)) i))) ≤ length (now out) ⌝ }
-    ensures next { λ r. ⌜ r ≡ at + length (stringBytes (partOf (viewOf (now (s .entry)) (numbersIn (now (words .entry)) (now (bytes .entry))) i))) ⌝ }
-    ensures out { λ r. ⌜ now (out .exit) ≡ placed at (stringBytes (partOf (viewOf (now (s .entry)) (numbersIn (now (words .entry)) (now (bytes .entry))) i))) (now (out .entry)) ⌝ }
+// The set's length, or the refusal.
+fn judge_set(out: &[u8], s: &[u8], words: &[u64], bytes: &[u8], count: usize) -> Written
+    ensures { λ r. ⌜ meaning r ≡ setJudged (length (now (out .entry))) (textsOf (now (s .entry)) (numbersIn (now (words .entry)) (now (bytes .entry))) count) ⌝ }
 {
-    let c = views::part(s, words, bytes, i);
-    writers_output::put_string(out, at, c);
-    at + writers_output::string_length(c)
+    if entries::slots(words, bytes) < count {
+        return Written::Refused(layouts::refuse(layouts::NO_SUCH_ENTRY, count));
+    }
+    judge_strings(out, 8, s, words, bytes, count)
+}
+
+// The entries from number i up to another, as strings at a place; the place after them. It stops before one that does not fit.
+pub fn put_strings(
+    out: &mut [u8],
+    at: usize,
+    s: &[u8],
+    words: &[u64],
+    bytes: &[u8],
+    i: usize,
+    next: usize,
+) -> usize
+    ensures place { λ r. ⌜ r ≡ stringsPut at (partsFrom (now (s .entry)) (numbersIn (now (words .entry)) (now (bytes .entry))) (next - i) i) (now (out .entry)) .0 ⌝ }
+    ensures out { λ r. ⌜ now (out .exit) ≡ stringsPut at (partsFrom (now (s .entry)) (numbersIn (now (words .entry)) (now (bytes .entry))) (next - i) i) (now (out .entry)) .1 ⌝ }
+{
+    let mut at = at;
+    let mut i = i;
+    while i < next {
+        let c = views::part(s, words, bytes, i);
+        let n = writers_output::string_length(c);
+        if !writers_output::has_room(out.len(), at, n) {
+            return at;
+        }
+        writers_output::put_string(out, at, c);
+        at += n;
+        i += 1;
+    }
+    at
 }
 
 fn put_set(out: &mut [u8], s: &[u8], words: &[u64], bytes: &[u8], count: usize)
@@ -93,19 +126,14 @@ fn put_set(out: &mut [u8], s: &[u8], words: &[u64], bytes: &[u8], count: usize)
     ensures { λ r. ⌜ now (out .exit) ≡ placed 0 (setBytes (partsFrom (now (s .entry)) (numbersIn (now (words .entry)) (now (bytes .entry))) count 0)) (now (out .entry)) ⌝ }
 {
     writers_output::put_number(out, 0, count as u64);
-    let mut at = 8;
-    let mut i = 0;
-    while i < count {
-        at = put_entry(out, at, s, words, bytes, i);
-        i += 1;
-    }
+    put_strings(out, 8, s, words, bytes, 0, count);
 }
 
 fn write(out: &mut [u8], s: &[u8], words: &[u64], bytes: &[u8], count: usize) -> Written
     ensures answer { λ r. ⌜ meaning r ≡ writeStringSet (now (s .entry)) (numbersIn (now (words .entry)) (now (bytes .entry))) count (now (out .entry)) ⌝ }
     ensures lent { λ r. ⌜ now (out .exit) ≡ setOutput (now (s .entry)) (numbersIn (now (words .entry)) (now (bytes .entry))) count (now (out .entry)) ⌝ }
 {
-    let judged = judge_set(s, words, bytes, count, out.len());
+    let judged = judge_set(out, s, words, bytes, count);
     let Written::Length(_) = judged else {
         return judged;
     };

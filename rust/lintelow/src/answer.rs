@@ -6,6 +6,9 @@ use std::str;
 /// The bytes that an entry takes in lent room: start and length.
 pub const ENTRY: usize = 16;
 
+/// The bytes of a record: twelve numbers and three counts.
+pub const RECORD: usize = 120;
+
 /// Where the contents of a string stand in its stream.
 #[derive(Debug, Clone, Copy, PartialEq, Eq)]
 pub struct Entry {
@@ -52,6 +55,12 @@ impl<'r> Entries<'r> {
         self.0.chunks_exact(ENTRY).nth(index).map(Entry::read)
     }
 
+    /// The entries as a writer takes them.
+    #[inline]
+    pub fn as_bytes(self) -> &'r [u8] {
+        self.0
+    }
+
     #[inline]
     pub fn iter(self) -> impl Iterator<Item = Entry> + 'r {
         self.0.chunks_exact(ENTRY).map(Entry::read)
@@ -84,14 +93,19 @@ impl Answer<'_> {
     pub fn own_entry(&self) -> Entry {
         Entry { start: self.numbers[1] as usize, length: self.numbers[2] as usize }
     }
+
+    /// Numbers and counts as [`raw::write_op_args`](crate::raw::write_op_args) takes them.
+    pub fn record(&self) -> [u8; RECORD] {
+        record(&self.numbers, &self.counts)
+    }
 }
 
 /// Why a call refused, and where. Nothing that was lent has changed.
 #[derive(Debug, Clone, Copy, PartialEq, Eq, Hash)]
 pub struct Refusal {
-    /// 1 to 12; [`Refusal::meaning`] says what it means.
+    /// 1 to 14; [`Refusal::meaning`] says what it means.
     pub number: u64,
-    /// The place in the part of the stream that was given; of refusals 11 and 12, and of a set that is written, an index or a count.
+    /// The place in the part of the stream that was given; of refusals 11 and 12, and of a set or call that is written, an index or a count.
     pub place: usize,
     /// 1 for the daemon's stream of a handshake, else 0.
     pub stream: u64,
@@ -112,6 +126,8 @@ impl Refusal {
             10 => "output full: a writer's whole output doesn't fit",
             11 => "no such entry: index not below the slots, or count above them",
             12 => "bad entry: start + length passes the end of the bytes",
+            13 => "no arguments: none are known for this operation and version",
+            14 => "not of the shape: a number, flag, count or payload that the shape or version lacks isn't 0 or empty, or a flag is above 1",
             _ => "a number without a meaning",
         }
     }
@@ -125,6 +141,15 @@ impl fmt::Display for Refusal {
 }
 
 impl Error for Refusal {}
+
+/// Numbers and counts, one after the other.
+pub(crate) fn record(numbers: &[u64; 12], counts: &[u64; 3]) -> [u8; RECORD] {
+    let mut bytes = [0; RECORD];
+    for (place, number) in bytes.chunks_exact_mut(8).zip(numbers.iter().chain(counts)) {
+        place.copy_from_slice(&number.to_le_bytes());
+    }
+    bytes
+}
 
 /// The little-endian number that stands at an index in rows of eight bytes.
 #[inline]

@@ -1,12 +1,12 @@
 //! The proved reader of Nix daemon streams, for Rust.
 //!
 //! The reading is done by Lintelow's static library, in which every function is proved to meet its contract; this crate calls it and gives its
-//! answers the types of nix-wire. It takes no decision about the protocol: it knows the numbers that the library answers with (kinds, and the slots
-//! of a record) and nothing of layouts, versions or text.
+//! answers the types of nix-wire. It takes no decision about the protocol: it knows the numbers that the library answers with (kinds, with their
+//! operations, and the slots of a record) and nothing of layouts, versions or text.
 //!
 //! A reader takes the part of a stream that starts where the last call ended, and answers with what it read and where that ended, or with a
 //! [`Refusal`]: a number, a place in that part, and for a handshake the stream. An operation is its number; one that the library does not know is
-//! refused by 9.
+//! refused by 9. [`write_op_args`] is the other way for calls.
 //!
 //! ```
 //! use lintelow::{read_daemon_result, ResultData, Version};
@@ -44,6 +44,7 @@ pub mod raw;
 mod read;
 mod types;
 pub mod wire;
+mod write;
 
 pub use answer::{Answer, Entries, Entry, Refusal};
 pub use read::{
@@ -51,3 +52,4 @@ pub use read::{
     skip_op_args, with_room,
 };
 pub use types::{ErrorInfo, HandshakeInfo, OpCall, PathInfoResult, ResultData, SkippedArgs, StderrCode, StderrResult, Version};
+pub use write::write_op_args;

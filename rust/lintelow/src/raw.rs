@@ -16,10 +16,27 @@ use block::Block;
 mod block;
 mod wire;
 
-pub use crate::answer::ENTRY;
+pub use crate::answer::{ENTRY, RECORD};
 pub use wire::*;
 
 extern "C" {
+    fn lintelow_write_op_args(
+        op: u64,
+        major: u16,
+        minor: u8,
+        record: *const u8,
+        record_len: usize,
+        bytes: *const u8,
+        bytes_len: usize,
+        entries: *const u8,
+        entries_len: usize,
+        payload: *const u8,
+        payload_len: usize,
+        out: *mut u8,
+        out_len: usize,
+        block: *mut u8,
+        block_len: usize,
+    ) -> u64;
     fn lintelow_read_stderr_loop(s: *const u8, s_len: usize, block: *mut u8, block_len: usize) -> u64;
     fn lintelow_read_stderr_with_error(s: *const u8, s_len: usize, entries: *mut u8, entries_len: usize, block: *mut u8, block_len: usize) -> u64;
     fn lintelow_parse_handshake(
@@ -107,6 +124,45 @@ past_an_operation! {
     skip_op_args = lintelow_skip_op_args;
     /// The reply to an operation passed over.
     skip_daemon_result = lintelow_skip_daemon_result;
+}
+
+/// The arguments of an operation, written from what [`read_op_args`] answers: the record ([`Answer::record`]), the strings that entries have in `bytes`,
+/// and the payload. What a shorter record lacks is 0, and what lies beyond [`RECORD`] bytes is not looked at. `end` is how many bytes; the payload is what
+/// was written. Refused by 9, 13, 14, 11, then for each entry 12 and 3, then 10; include/lintelow.h has their places.
+#[inline]
+pub fn write_op_args<'r>(
+    op: u64,
+    version: Version,
+    record: &[u8],
+    bytes: &[u8],
+    entries: &[u8],
+    payload: &[u8],
+    out: &'r mut [u8],
+) -> Result<Answer<'r>, Refusal> {
+    let Version { major, minor } = version;
+    // SAFETY: as said above.
+    let block = unsafe {
+        Block::of(|block, length| {
+            lintelow_write_op_args(
+                op,
+                major,
+                minor,
+                record.as_ptr(),
+                record.len(),
+                bytes.as_ptr(),
+                bytes.len(),
+                entries.as_ptr(),
+                entries.len(),
+                payload.as_ptr(),
+                payload.len(),
+                out.as_mut_ptr(),
+                out.len(),
+                block,
+                length,
+            )
+        })
+    };
+    block.answer(&[], out)
 }
 
 /// The daemon's messages up to Last, Error or what is no message.

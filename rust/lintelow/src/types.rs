@@ -118,6 +118,33 @@ pub enum OpCall {
     },
 }
 
+impl OpCall {
+    /// The operation's number.
+    pub fn op(&self) -> u64 {
+        match *self {
+            OpCall::SinglePath { op, .. }
+            | OpCall::SingleString { op, .. }
+            | OpCall::PathSet { op, .. }
+            | OpCall::PathSetFlag { op, .. }
+            | OpCall::PathSetMode { op, .. }
+            | OpCall::NoArgs { op } => op,
+            OpCall::AddToStore { .. } => 7,
+            OpCall::AddTextToStore { .. } => 8,
+            OpCall::SetOptions { .. } => 19,
+            OpCall::CollectGarbage { .. } => 20,
+            OpCall::QuerySubstitutablePathInfo { .. } => 21,
+            OpCall::QuerySubstitutablePathInfos { .. } => 30,
+            OpCall::VerifyStore { .. } => 35,
+            OpCall::AddSignatures { .. } => 37,
+            OpCall::RegisterDrvOutput { .. } => 42,
+            OpCall::QueryRealisation { .. } => 43,
+            OpCall::AddMultipleToStore { .. } => 44,
+            OpCall::AddBuildLog { .. } => 45,
+            OpCall::AddPermRoot { .. } => 47,
+        }
+    }
+}
+
 /// What is said of arguments that were passed over.
 #[derive(Debug, Clone, Copy, PartialEq, Eq)]
 pub enum SkippedArgs<'s> {

@@ -83,14 +83,7 @@ pub fn write_string(out: &mut Vec<u8>, text: &str) {
 }
 
 pub fn write_string_set<T: AsRef<str>>(out: &mut Vec<u8>, texts: &[T]) {
-    let mut bytes = Vec::new();
-    let mut entries = Vec::with_capacity(texts.len() * ENTRY);
-    for text in texts {
-        let text = text.as_ref().as_bytes();
-        entries.extend((bytes.len() as u64).to_le_bytes());
-        entries.extend((text.len() as u64).to_le_bytes());
-        bytes.extend(text);
-    }
+    let (bytes, entries) = joined(texts);
     let guess = bytes.len() + entries.len() + 8;
     append(out, guess, |room| raw::write_string_set(room, &bytes, &entries, texts.len()))
 }
@@ -131,17 +124,40 @@ pub fn version_from_wire(wire: u64) -> Version {
     Version::new(major as u16, minor as u8)
 }
 
-/// Writes behind what `out` has, with room as guessed, and with twice as much while that is too little.
+/// Texts as writers take them: their bytes one after the other, and an entry for each.
+pub(crate) fn joined<T: AsRef<str>>(texts: &[T]) -> (Vec<u8>, Vec<u8>) {
+    let mut bytes = Vec::new();
+    let mut entries = Vec::with_capacity(texts.len() * ENTRY);
+    for text in texts {
+        let text = text.as_ref().as_bytes();
+        entries.extend((bytes.len() as u64).to_le_bytes());
+        entries.extend((text.len() as u64).to_le_bytes());
+        bytes.extend(text);
+    }
+    (bytes, entries)
+}
+
 fn append(out: &mut Vec<u8>, guess: usize, write: impl Fn(&mut [u8]) -> Result<Answer<'_>, Refusal>) {
+    try_append(out, guess, write).unwrap_or_else(|refusal| unreachable!("a writer of text and numbers refuses by 10 alone: {refusal}"))
+}
+
+/// Writes behind what `out` has, with room as guessed, and with twice as much while that is too little.
+pub(crate) fn try_append(out: &mut Vec<u8>, guess: usize, write: impl Fn(&mut [u8]) -> Result<Answer<'_>, Refusal>) -> Result<(), Refusal> {
     let start = out.len();
     let mut room = guess;
     loop {
         out.resize(start + room, 0);
         let written = write(&mut out[start..]).map(|answer| answer.end);
         match written {
-            Ok(length) => return out.truncate(start + length),
+            Ok(length) => {
+                out.truncate(start + length);
+                return Ok(());
+            }
             Err(Refusal { number: 10, .. }) => room *= 2,
-            Err(refusal) => unreachable!("a writer of text and numbers refuses by 10 alone: {refusal}"),
+            Err(refusal) => {
+                out.truncate(start);
+                return Err(refusal);
+            }
         }
     }
 }

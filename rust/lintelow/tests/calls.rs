@@ -219,11 +219,11 @@ fn refusals_have_number_and_place() {
 fn a_refusal_says_what_it_means() {
     let error: Box<dyn std::error::Error> = Box::new(refused(8, 24, 1));
     assert_eq!(error.to_string(), "refusal 8 at 24 of the daemon's stream: not Last: the handshake's final number differs");
-    let meanings: Vec<_> = (1..=13).map(|number| refused(number, 0, 0).meaning()).collect();
+    let meanings: Vec<_> = (1..=15).map(|number| refused(number, 0, 0).meaning()).collect();
     for (i, meaning) in meanings.iter().enumerate() {
         assert!(!meanings[..i].contains(meaning), "{meaning}");
     }
-    assert_eq!(meanings[12], "a number without a meaning");
+    assert_eq!(meanings[14], "a number without a meaning");
 }
 
 #[test]

@@ -139,7 +139,7 @@ fn value(value: &Value) -> String {
     match value {
         Value::Number(number) => number.to_string(),
         Value::Flag(flag) => flag.to_string(),
-        Value::Mode(mode) => quoted(&mode_text(*mode)),
+        Value::Mode(mode) => quoted(&mode_text(**mode)),
         Value::Text(text) => quoted(text),
         Value::Set(set) => strings(set),
         Value::Pairs(pairs) => list(pairs.iter().map(|(name, value)| format!("[{},{}]", quoted(name), quoted(value)))),

@@ -1,4 +1,6 @@
-//! Shows a recorded session: a program over the crate `lintelow`. The library reads; here is the order of a session and how it is told.
+//! Shows a recorded session: a program over the crate `lintelow`. The library reads; here is the order of a session and how it is told. [`call`] is a
+//! second program, which writes a call under the same names.
+pub mod call;
 mod fields;
 mod hex;
 mod json;

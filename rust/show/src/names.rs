@@ -1,4 +1,4 @@
-//! Names for display. Nothing is decided by them: which numbers are operations is the library's to say.
+//! Names for display, and for a call that is asked for by its name. Which numbers are operations is the library's to say.
 
 const OPERATIONS: [(u64, &str); 37] = [
     (1, "IsValidPath"),
@@ -43,6 +43,11 @@ const OPERATIONS: [(u64, &str); 37] = [
 /// The name of an operation; "unknown" where it has none.
 pub fn operation(number: u64) -> &'static str {
     OPERATIONS.iter().find(|(known, _)| *known == number).map_or("unknown", |(_, name)| name)
+}
+
+/// The operation of that name.
+pub fn number(name: &str) -> Option<u64> {
+    OPERATIONS.iter().find(|(_, known)| *known == name).map(|(number, _)| *number)
 }
 
 /// What the daemon says by its trust number.

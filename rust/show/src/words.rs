@@ -86,7 +86,7 @@ impl<'s, W: Write> Words<'s, W> {
             None => Ok(()),
             Some(Outcome::Reply { bytes, data, payload }) => self.part("reply", Side::Daemon, bytes, &fields::of_reply(data, payload)),
             Some(Outcome::Error { bytes, info }) => {
-                let fields = vec![("type", Value::Text(&info.error_type)), ("level", Value::Number(info.level)), ("name", Value::Text(&info.name))];
+                let fields = vec![("type", Value::Text(&info.error_type)), ("level", Value::Number(&info.level)), ("name", Value::Text(&info.name))];
                 self.part("error", Side::Daemon, bytes, &Fields { kind: "Error", fields })?;
                 // Never shortened: it is what an error is looked at for.
                 let message = self.red(&text::visible(&info.message));
@@ -284,8 +284,8 @@ fn bytes(range: &Bytes) -> String {
 fn short(value: &Value) -> Option<String> {
     match value {
         Value::Number(number) => Some(number.to_string()),
-        Value::Flag(flag) => Some(if *flag { "yes" } else { "no" }.to_owned()),
-        Value::Mode(mode) => Some(mode_text(*mode)),
+        Value::Flag(flag) => Some(if **flag { "yes" } else { "no" }.to_owned()),
+        Value::Mode(mode) => Some(mode_text(**mode)),
         _ => None,
     }
 }

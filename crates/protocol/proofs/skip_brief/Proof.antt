@@ -26,4 +26,4 @@ skip-brief-spec =
     (λ c.
     let (at-in-brief, at-enum-told2, at-number-at) : tie.After-in-brief × tie.After-enum-told2 × tie.After-number-at = search in
     brief-number _ _ (brief-is _ _ _ (at-in-brief .in-brief .ensures .1) (at-enum-told2 .enum-told2 .given .1)) _ (at-number-at .number-at .ensures) _ (c .enum-told4 .given .1))
-    (λ c. search needs))
+    (λ c. c .skip .ensures))

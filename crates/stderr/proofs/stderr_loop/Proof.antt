@@ -39,7 +39,9 @@ stderr-loop-spec =
     let (at-loop, at-number-at, at-p) : At tie.At-loop × At tie.After-number-at × At tie.After-p = search in
     let t = there _ _ _ (at-loop .loop .inv) _ (at-number-at .number-at .ensures) _ (at-p .p .given .1) in
     omega (arith, t))
-    (λ c. let at-p : At tie.After-p = search in search (last-message, at-p .p .given .1, c .enum-told3 .given .1))
+    (λ c.
+    let (at-loop, at-number-at, at-p, at-find-message) : At tie.At-loop × At tie.After-number-at × At tie.After-p × At tie.After-find-message = search in
+    last-message _ _ _ (at-loop .loop .inv) _ (at-number-at .number-at .ensures) _ (at-p .p .given .1) _ (at-find-message .find-message .ensures) (c .enum-told3 .given .1))
     (λ c. search needs)
     (λ c.
     let (at-loop, at-number-at, at-p) : At tie.At-loop × At tie.After-number-at × At tie.After-p = search in

@@ -11,6 +11,7 @@ write-spec =
     (λ c κs. search needs)
     (λ c. search needs)
     (λ c. search needs)
+    (λ c. search needs)
     (λ c. let at-judge-set : tie.After-judge-set = search in set-refused _ _ _ _ _ (at-judge-set .judge-set .ensures) _ (c .enum-told2 .given .1))
     (λ c κs. search set-held)
     (λ c. search needs)

@@ -1,4 +1,5 @@
 //! Streams written out: numbers, strings, sets.
+#![allow(dead_code)]
 
 pub fn numbers(list: &[u64]) -> Vec<u8> {
     list.iter().flat_map(|n| n.to_le_bytes()).collect()

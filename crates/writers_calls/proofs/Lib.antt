@@ -1,0 +1,5 @@
+pub mod Numbers
+pub mod Rows
+pub mod Puts
+pub mod Judged
+pub mod Unique
