@@ -1,4 +1,4 @@
--- Theorems about the definitions of `specs/`. `Exact`, `Refusals`, `RoundTrip`, `CallTrips`, `CallOurs`, `Soft`, `Theorems`, `Calls`, `Arguments`, `Stderr`, `Talk` and `Examples` hold
+-- Theorems about the definitions of `specs/`. `Exact`, `Refusals`, `RoundTrip`, `Soft`, `Theorems`, `Calls`, `Arguments`, `Stderr`, `Talk` and `Examples` hold
 -- what docs/PROOFS.md cites; the others serve them and the crates above.
 pub mod Little
 pub mod Views
@@ -14,11 +14,6 @@ pub mod Lowers
 pub mod Arguments
 pub mod Writers
 pub mod RoundTrip
-pub mod CallFields
-pub mod CallTrips
-pub mod CallNumbers
-pub mod CallAgain
-pub mod CallOurs
 pub mod Success
 pub mod Stderr
 pub mod Talk

@@ -114,6 +114,8 @@ callsWritten =
     ex (skip (writeOpArgs 48 (version 1 38) (replicate 15 0) [] [] [] [])) (9 ∷ 0 ∷ []) ∷
     ex (skip (writeOpArgs 7 (version 1 24) (1 ∷ replicate 14 0) [] [] [] [])) (13 ∷ 0 ∷ []) ∷
     ex (skip (writeOpArgs 47 (version 1 38) (1 ∷ replicate 14 0) [] [] [] [])) (14 ∷ 0 ∷ []) ∷
+    -- 14 by a flag above 1
+    ex (skip (writeOpArgs 35 (version 1 38) (2 ∷ replicate 14 0) [] [] [] [])) (14 ∷ 0 ∷ []) ∷
     -- 11 before 12: its second string has no entry, its first a bad one. 12 before 10; 10
     ex (skip (writeOpArgs 47 (version 1 38) (replicate 15 0) [] (1 ∷ 1 ∷ []) [] [])) (11 ∷ 0 ∷ []) ∷
     ex (skip (writeOpArgs 1 (version 1 38) (replicate 15 0) [] (1 ∷ 1 ∷ []) [] [])) (12 ∷ 0 ∷ []) ∷

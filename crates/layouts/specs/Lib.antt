@@ -17,7 +17,5 @@ pub mod Examples
 -- what the demands speak of
 pub mod Soft
 pub mod Demands
-pub mod CallTrips
-pub mod CallOurs
 -- what a refusal of the code means
 pub mod Refusal

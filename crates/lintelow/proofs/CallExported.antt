@@ -23,13 +23,13 @@ use Rattle.layouts.specs.Calls.{kindBy, argumentsKinds, argumentsTree, readOpAr
 use Rattle.layouts.specs.Writers.{writing}
 use Rattle.layouts.specs.Demands.{Bytes, Held}
 use Rattle.layouts.specs.CallWriter.{callBytes, writeOpArgs}
-use Rattle.layouts.specs.CallTrips.{Fifteen, callPieces}
-use Rattle.layouts.specs.CallOurs.{Ours}
 use Rattle.layouts.proofs.Little.{number-same, little-drop, number-small}
 use Rattle.layouts.proofs.Success.{call-numbered}
 use Rattle.layouts.proofs.Calls.{answer-of}
 use Rattle.layouts.proofs.Writers.{onward-ok, pick-ok}
-use Rattle.layouts.proofs.CallOurs.{read-within, read-fifteen, read-entries}
+use Rattle.layouts_calls.specs.CallTrips.{Fifteen, callPieces}
+use Rattle.layouts_calls.specs.CallOurs.{Ours}
+use Rattle.layouts_calls.proofs.CallOurs.{read-within, read-fifteen, read-entries}
 use Rattle.entries.specs.Entries.{numbersFrom, entriesIn}
 use Rattle.writers_output.specs.Numbers.{bytesOf}
 use Rattle.writers_output.proofs.Numbers.{bytes-length, bytes-join}

@@ -18,11 +18,11 @@ use Rattle.layouts.specs.Calls.{argumentsKinds, argumentsTree, readOpArgs}
 use Rattle.layouts.specs.Writers.{viewOf}
 use Rattle.layouts.specs.Demands.{Bytes}
 use Rattle.layouts.specs.CallWriter.{callBytes, writeOpArgs}
-use Rattle.layouts.specs.CallTrips.{Fifteen, callStrings, callPieces, ReadBack}
-use Rattle.layouts.specs.CallOurs.{Ours}
 use Rattle.layouts.proofs.Writers.{stands, begins}
-use Rattle.layouts.proofs.CallTrips.{call-told, written-strings, strings-are, written-read}
-use Rattle.layouts.proofs.CallOurs.{read-written, read-within, read-written-fits}
+use Rattle.layouts_calls.specs.CallTrips.{Fifteen, callStrings, callPieces, ReadBack}
+use Rattle.layouts_calls.specs.CallOurs.{Ours}
+use Rattle.layouts_calls.proofs.CallTrips.{call-told, written-strings, strings-are, written-read}
+use Rattle.layouts_calls.proofs.CallOurs.{read-written, read-within, read-written-fits}
 use Rattle.walk_judge.specs.declared.Outcome.the-variants.{Fine}
 use Rattle.walk_judge.specs.declared.Answer as C
 use Rattle.walk_judge.specs.Judged.{answerAs}

@@ -4,7 +4,7 @@ use mathlib.Core.Path.{_≡_}
 use mathlib.Core.List.{List}
 use lib.ListN.{length}
 use Rattle.layouts.specs.Primitive.{Version, ok}
-use Rattle.layouts.specs.CallTrips.{callStrings, NoneLong}
+use Rattle.layouts_calls.specs.CallTrips.{callStrings, NoneLong}
 use Rattle.entries.specs.Entries.{numbersFrom}
 use Rattle.lintelow.specs.Demands.{inBlock}
 use Rattle.lintelow.specs.RoundTrips.{SameStrings}

@@ -17,7 +17,7 @@ use Rattle.layouts.specs.Writers.{slotsOf, stringBytes, stringsBytes, framedByt
 use Rattle.layouts.specs.CallWriter.{valueFor, isOfShape, stringsIn, entriesFor, fieldBytes, fieldsBytes, shapeBytes, writeBytes}
 use Rattle.layouts.proofs.Little.{length-number}
 use Rattle.layouts.proofs.Writers.{texts-told, onward-ok, pick-ok}
-use Rattle.layouts.proofs.CallTrips.{total, entries-total}
+use Rattle.layouts_calls.proofs.CallTrips.{total, entries-total}
 use Rattle.writers_output.specs.declared.Written.{Written}
 use Rattle.writers_output.specs.declared.Written.the-variants as W
 use Rattle.writers_output.specs.Answer.{meaning}

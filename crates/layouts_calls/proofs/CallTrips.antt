@@ -10,26 +10,26 @@ use borrow.Author.Tests.{eqb-true, eqb-false}
 use native.Mathlib.Omega.{arith}
 use native.Mathlib.Decide.{ℕ-discrete}
 use native.Mathlib.Nat.{zero-add}
 use Rattle.layouts.specs.declared.Record.{Record}
 use Rattle.layouts.specs.Primitive.{pick, Version, noSuchEntry, noArguments, notOfShape, Result, ok, onward}
 use Rattle.layouts.specs.Shape.{What, once, Tree, stop, group, groups, layout}
 use Rattle.layouts.specs.Pieces.{Pieces, end, run}
 use Rattle.layouts.specs.Record.{blank}
 use Rattle.layouts.specs.Judge.{judgeOf, entriesOf, payloadOf}
 use Rattle.layouts.specs.Operations.{kindOf, Operation, Row, row, unknown, operations, find}
 use Rattle.layouts.specs.Grammar.{Says, says-end}
 use Rattle.layouts.specs.Calls.{argumentsTree, byRow, argumentsKinds, answered, readOpArgs}
 use Rattle.layouts.specs.Writers.{slotsOf, viewOf, textsFrom, writing}
 use Rattle.layouts.specs.Demands.{Strings}
 use Rattle.layouts.specs.CallWriter.{fieldsThere, fieldsBy, callFields, valueFor, targetIn, leave, leftBy, allZero, isFramed, hasFrames, isOfShape, stringsIn, entriesFor, fieldBytes, fieldsBytes, stringsOf, shapeBytes, callBytes, writeOpArgs}
-use Rattle.layouts.specs.CallTrips.{Fifteen, callStrings, NoneLong, callPieces, ReadBack}
 use Rattle.layouts.proofs.Exact.{past, complete}
 use Rattle.layouts.proofs.Placed.{never-both}
 use Rattle.layouts.proofs.Lowers.{not-both}
 use Rattle.layouts.proofs.Arguments.{found}
 use Rattle.layouts.proofs.Writers.{onward-ok, pick-ok, writing-told, Told, texts-told}
 use Rattle.layouts.proofs.RoundTrip.{not-refused}
-use Rattle.layouts.proofs.CallFields.{fieldsTree, fields-there, Writable, AllWritable, areWritable, all-writable, and-true, fieldPieces, says-field, texts-then, Agrees, strings-in, payload-field, Taken, taken}
+use Rattle.layouts_calls.specs.CallTrips.{Fifteen, callStrings, NoneLong, callPieces, ReadBack}
+use Rattle.layouts_calls.proofs.CallFields.{fieldsTree, fields-there, Writable, AllWritable, areWritable, all-writable, and-true, fieldPieces, says-field, texts-then, Agrees, strings-in, payload-field, Taken, taken}
 
 -- ---- how many strings the fields have
 unfoldable pub total : (numbers : List ℕ) → List What → ℕ

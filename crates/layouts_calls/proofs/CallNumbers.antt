@@ -10,16 +10,16 @@ use lib.Seq.{set-append-left, getD-set-same, getD-set-other}
 use lib.Dec.{ltb, eqb}
 use borrow.Author.Tests.{not-true, ltb-true, eqb-true, eqb-false, le-leb}
 use native.Mathlib.Omega.{arith}
 use Rattle.layouts.specs.declared.Record.{Record}
 use Rattle.layouts.specs.Primitive.{pick, Version}
 use Rattle.layouts.specs.Shape.{Target, dropped, asNumber, asFlag, asCount, asPresence, What, num, str, set, pairs, framed, maybe, typed, Gated, there, what, truth, Tree}
 use Rattle.layouts.specs.Pieces.{Pieces, number, text, half, chunk, end, fault}
 use Rattle.layouts.specs.Grammar.{Says, says-number, says-text, says-chunk, says-last, says-end}
 use Rattle.layouts.specs.Record.{noted, isKept, entered, withPayload, recordOf}
 use Rattle.layouts.specs.CallWriter.{fieldsThere, valueFor, targetIn, leave, leftBy, allZero, isFramed, hasFrames}
-use Rattle.layouts.specs.CallOurs.{OurNumber}
 use Rattle.layouts.proofs.Theorems.{never-true}
-use Rattle.layouts.proofs.CallFields.{and-true, set-append-right}
+use Rattle.layouts_calls.specs.CallOurs.{OurNumber}
+use Rattle.layouts_calls.proofs.CallFields.{and-true, set-append-right}
 
 pub neither-true : (a b : Bool) → a || b ≡ false → (a ≡ false) × (b ≡ false)
 neither-true true b e = absurd (never-true (sym e))

@@ -9,27 +9,27 @@ use lib.Seq.{length-take-le}
 use lib.Dec.{eqb}
 use borrow.Author.Tests.{ne-eqb}
 use native.Mathlib.Omega.{arith}
 use Rattle.layouts.specs.Primitive.{Version, Result, ok, onward}
 use Rattle.layouts.specs.Shape.{What, what, once, Tree, stop, group, groups, layout}
 use Rattle.layouts.specs.Pieces.{run}
 use Rattle.layouts.specs.Record.{blank}
 use Rattle.layouts.specs.Judge.{Ended, judgeOf, entriesOf, payloadOf}
 use Rattle.layouts.specs.Operations.{argumentsNumber, Choice, none, only, byVersion, byFlag, byNumber, kindOf, Operation, operations, Row, row, unknown, find}
 use Rattle.layouts.specs.Calls.{byRow, argumentsTree, argumentsKinds, Answer, answered, readOf, readOpArgs}
 use Rattle.layouts.specs.Demands.{Bytes}
-use Rattle.layouts.specs.CallTrips.{Fifteen, callPieces}
 use Rattle.layouts.specs.CallWriter.{fieldsThere, hasFrames, fieldsBy, callFields, shapeBytes, callBytes, writeOpArgs}
-use Rattle.layouts.specs.CallOurs.{Ours}
 use Rattle.layouts.proofs.Exact.{sound}
 use Rattle.layouts.proofs.Placed.{never-both, run-placed, ends}
 use Rattle.layouts.proofs.Judge.{judge-read}
 use Rattle.layouts.proofs.Theorems.{never-true}
 use Rattle.layouts.proofs.Calls.{answer-of}
 use Rattle.layouts.proofs.Arguments.{found}
 use Rattle.layouts.proofs.Writers.{writing-fits}
-use Rattle.layouts.proofs.CallFields.{fields-there, and-true}
-use Rattle.layouts.proofs.CallNumbers.{written, numbersOf, numbers-length, numbers-small, allOf, record-all, fewer-written}
-use Rattle.layouts.proofs.CallAgain.{treeOf, entries-within, none-zero, fields-written}
+use Rattle.layouts_calls.specs.CallTrips.{Fifteen, callPieces}
+use Rattle.layouts_calls.specs.CallOurs.{Ours}
+use Rattle.layouts_calls.proofs.CallFields.{fields-there, and-true}
+use Rattle.layouts_calls.proofs.CallNumbers.{written, numbersOf, numbers-length, numbers-small, allOf, record-all, fewer-written}
+use Rattle.layouts_calls.proofs.CallAgain.{treeOf, entries-within, none-zero, fields-written}
 
 -- ---- the table: computed of all operations, every row can be written, and no kind of arguments asks for a flag
 all-written : map (λ (o : Operation). written (map what (o .arguments))) operations ≡ map (λ (o : Operation). true) operations

@@ -11,24 +11,24 @@ use borrow.Author.Tests.{le-leb}
 use native.Mathlib.Omega.{arith}
 use native.Mathlib.Nat.{add-zero, zero-add}
 use Rattle.text.proofs.Meaning.{text-is}
 use Rattle.layouts.specs.Primitive.{pick, numberBytes, padOf, Result, ok}
 use Rattle.layouts.specs.Shape.{passed, checked, kept, What, num, str, set, pairs, framed, maybe, typed, there, what, once, Tree, frames, stop, strings, units, field, fields}
 use Rattle.layouts.specs.Pieces.{Pieces, number, text, half, chunk, end, fault, run, totalOf}
 use Rattle.layouts.specs.Record.{blank, isKept}
 use Rattle.layouts.specs.Judge.{Ended, judgeOf, entry, entriesOf, payloadOf}
 use Rattle.layouts.specs.Grammar.{Says, says-number, says-text, says-chunk, says-last, says-end}
 use Rattle.layouts.specs.Demands.{Bytes, AllText, Verdict, all-text, first-bad}
 use Rattle.layouts.specs.Writers.{slotsOf, stringBytes, stringsBytes, chunksBytes, framedBytes, textAt, textsFrom}
 use Rattle.layouts.specs.CallWriter.{valueFor, targetIn, leftBy, isFramed, hasFrames, isOfShape, stringsIn, entriesFor, fieldBytes, fieldsBytes, shapeBytes}
-use Rattle.layouts.specs.CallOurs.{OurNumber, Ours}
 use Rattle.layouts.proofs.Little.{length-number}
 use Rattle.layouts.proofs.Placed.{never-both, Placed, on-number, on-text, on-half, on-chunk, on-end, on-fault, run-placed}
 use Rattle.layouts.proofs.Exact.{past, sound}
 use Rattle.layouts.proofs.Judge.{judge-read, judge-room}
 use Rattle.layouts.proofs.Theorems.{never-true, unless-bad}
 use Rattle.layouts.proofs.RoundTrip.{string-at, zeros, view-at}
-use Rattle.layouts.proofs.CallFields.{fieldsTree, units-one, units-two}
-use Rattle.layouts.proofs.CallNumbers.{neither-true, writable, taken, written, Written, parts, in-range, put, numbersOf, put-length, put-other, value-stays, allOf, record-all, OurNumbers, all-zero, left-zero}
+use Rattle.layouts_calls.specs.CallOurs.{OurNumber, Ours}
+use Rattle.layouts_calls.proofs.CallFields.{fieldsTree, units-one, units-two}
+use Rattle.layouts_calls.proofs.CallNumbers.{neither-true, writable, taken, written, Written, parts, in-range, put, numbersOf, put-length, put-other, value-stays, allOf, record-all, OurNumbers, all-zero, left-zero}
 
 -- the strings that are kept
 unfoldable shown : List ℕ → Pieces → List (List ℕ)
