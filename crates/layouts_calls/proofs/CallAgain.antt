@@ -3,7 +3,7 @@
 use Prim.Native.Nat.{ℕ, zero, suc, _+_, _*_, _≤_, _<_}
 use mathlib.Core.Path.{_≡_, refl, sym, _∙_, ap, subst}
 use mathlib.Core.List.{List, [], _∷_, _++_, append-assoc, append-nil}
-use mathlib.Core.Bool.{Bool, true, false, not, _&&_, _||_}
+use mathlib.Core.Bool.{Bool, true, false, _&&_, _||_}
 use lib.ListN.{length, getD, take, drop, replicate, length-append, drop-of-length-le}
 use lib.Seq.{take-at, drop-at, take-all, take-append-seam, drop-append-seam}
 use lib.Dec.{eqb}
@@ -12,10 +12,10 @@ use native.Mathlib.Omega.{arith}
 use native.Mathlib.Nat.{add-zero, zero-add}
 use Rattle.text.proofs.Meaning.{text-is}
 use Rattle.layouts.specs.Primitive.{pick, numberBytes, padOf, Result, ok}
-use Rattle.layouts.specs.Shape.{passed, checked, kept, What, num, str, set, pairs, framed, maybe, typed, there, what, once, Tree, frames, stop, strings, units, field, fields}
+use Rattle.layouts.specs.Shape.{passed, checked, kept, What, num, set, pairs, Tree, frames, stop, strings, units, field}
 use Rattle.layouts.specs.Pieces.{Pieces, number, text, half, chunk, end, fault, run, totalOf}
 use Rattle.layouts.specs.Record.{blank, isKept}
-use Rattle.layouts.specs.Judge.{Ended, judgeOf, entry, entriesOf, payloadOf}
+use Rattle.layouts.specs.Judge.{Ended, judgeOf, entriesOf, payloadOf}
 use Rattle.layouts.specs.Grammar.{Says, says-number, says-text, says-chunk, says-last, says-end}
 use Rattle.layouts.specs.Demands.{Bytes, AllText, Verdict, all-text, first-bad}
 use Rattle.layouts.specs.Writers.{slotsOf, stringBytes, stringsBytes, chunksBytes, framedBytes, textAt, textsFrom}
@@ -27,8 +27,9 @@ use Rattle.layouts.proofs.Judge.{judge-read, judge-room}
 use Rattle.layouts.proofs.Theorems.{never-true, unless-bad}
 use Rattle.layouts.proofs.RoundTrip.{string-at, zeros, view-at}
 use Rattle.layouts_calls.specs.CallOurs.{OurNumber, Ours}
+use Rattle.layouts_calls.proofs.Writable.{neither-true, Writable, in-record, a-number, a-string, a-set, some-pairs, framed-data, taken, AllWritable}
 use Rattle.layouts_calls.proofs.CallFields.{fieldsTree, units-one, units-two}
-use Rattle.layouts_calls.proofs.CallNumbers.{neither-true, writable, taken, written, Written, parts, in-range, put, numbersOf, put-length, put-other, value-stays, allOf, record-all, OurNumbers, all-zero, left-zero}
+use Rattle.layouts_calls.proofs.CallNumbers.{put, numbersOf, put-length, put-other, value-stays, allOf, record-all, OurNumbers, all-zero, left-zero}
 
 -- the strings that are kept
 unfoldable shown : List ℕ → Pieces → List (List ℕ)
@@ -179,19 +180,19 @@ module _ (s : List ℕ) where
   after-number : (n at : ℕ) (b u : List ℕ) → drop at s ≡ (numberBytes n ++ b) ++ u → drop (at + 8) s ≡ b ++ u
   after-number n at b u e = past s at 8 (numberBytes n) (b ++ u) (simp append-assoc at e) (length-number n)
 
-  field-at : (w : What) (t : Tree) (at : ℕ) (b u : List ℕ) (p : Pieces) → writable w ≡ true → (isFramed w ≡ true → NoPayload t) → Says (field w (λ u. t)) at b p
+  field-at : {w : What} → Writable w → (t : Tree) (at : ℕ) (b u : List ℕ) (p : Pieces) → (isFramed w ≡ true → NoPayload t) → Says (field w (λ u. t)) at b p
       → drop at s ≡ b ++ u → Ours s p → FieldAt w t b u p
   unfolding field strings Ours numbersOf stringsIn fieldBytes framedBytes stringsBytes strings-at
-  field-at (num i) t at b u p can bare (says-number i' n at' k b' p' l y) e o =
+  field-at (a-number i h) t at b u p bare (says-number i' n at' k b' p' l y) e o =
       let r = strings-at 0 t (at + 8) b' u p' y (after-number n at b' u e) (o .1) in
       number-at (num i) n t at b' u p' (r .0) (o .0) (λ ns h. refl) (λ ns c. sym (append-nil (numberBytes (valueFor ns i))))
-  field-at (set kept i) t at b u p can bare (says-number i' n at' k b' p' l y) e o =
+  field-at (a-set i h) t at b u p bare (says-number i' n at' k b' p' l y) e o =
       let r = units-at 0 n n t (at + 8) b' u p' (units-one n (λ u. t)) y (after-number n at b' u e) (o .1) in
       number-at (set kept i) n t at b' u p' (r .0) (o .0) (λ ns h. omega (arith, r .1)) (λ ns c. refl)
-  field-at (pairs kept i) t at b u p can bare (says-number i' n at' k b' p' l y) e o =
+  field-at (some-pairs i h) t at b u p bare (says-number i' n at' k b' p' l y) e o =
       let r = units-at 1 n (n + n) t (at + 8) b' u p' (units-two n (λ u. t)) y (after-number n at b' u e) (o .1) in
       number-at (pairs kept i) n t at b' u p' (r .0) (o .0) (λ ns h. omega (arith, r .1)) (λ ns c. refl)
-  field-at (str kept) t at b u p can bare y e o =
+  field-at a-string t at b u p bare y e o =
       let i = strings-at 1 t at b u p y e o in
       let r = i .0 in
       record {
@@ -206,7 +207,7 @@ module _ (s : List ℕ) where
         many = λ ns h. sym (i .1);
         bytes = λ ns c h f. r .bytes;
       }
-  field-at framed t at b u p can bare y e o =
+  field-at framed-data t at b u p bare y e o =
       let r = frames-at u (bare refl) y e o in
       record {
         value = 0;
@@ -220,55 +221,45 @@ module _ (s : List ℕ) where
         many = λ ns h. refl;
         bytes = λ ns c h f. rw (f refl) (r .bytes (length (payloadOf s p)) (omega arith));
       }
-  field-at (str passed) t at b u p can bare y e o = absurd (never-true can)
-  field-at (str checked) t at b u p can bare y e o = absurd (never-true can)
-  field-at (set passed i) t at b u p can bare y e o = absurd (never-true can)
-  field-at (set checked i) t at b u p can bare y e o = absurd (never-true can)
-  field-at (pairs passed i) t at b u p can bare y e o = absurd (never-true can)
-  field-at (pairs checked i) t at b u p can bare y e o = absurd (never-true can)
-  field-at maybe t at b u p can bare y e o = absurd (never-true can)
-  field-at typed t at b u p can bare y e o = absurd (never-true can)
 
   -- without framed data there is no payload
-  no-frames : (ws : List What) → written ws ≡ true → hasFrames ws ≡ false → NoPayload (treeOf ws)
+  no-frames : (ws : List What) → AllWritable ws → hasFrames ws ≡ false → NoPayload (treeOf ws)
   unfolding fieldsTree hasFrames totalOf payloadOf
   no-frames [] g f at b u p (says-end at') e o = (refl, refl)
   no-frames (w ∷ ws) g f at b u p y e o =
-      let a = parts w ws g in
       let d = neither-true (isFramed w) (hasFrames ws) f in
-      let x = field-at w (treeOf ws) at b u p (a .can) (λ h. absurd (never-true (sym (d .0) ∙ h))) y e o in
+      let x = field-at (g .0 .can) (treeOf ws) at b u p (λ h. absurd (never-true (sym (d .0) ∙ h))) y e o in
       let r = x .rest in
-      let i = no-frames ws (a .others) (d .1) (r .place) (r .bytes) u (r .pieces) (r .says) (r .stands) (r .ours) in
+      let i = no-frames ws (g .1) (d .1) (r .place) (r .bytes) u (r .pieces) (r .says) (r .stands) (r .ours) in
       (x .total (d .0) ∙ i .0, x .payload (d .0) ∙ i .1)
 
-  first-field : (w : What) (ws : List What) (at : ℕ) (b u : List ℕ) (p : Pieces) → Written w ws → Says (treeOf (w ∷ ws)) at b p → drop at s ≡ b ++ u → Ours s p
+  first-field : (w : What) (ws : List What) (at : ℕ) (b u : List ℕ) (p : Pieces) → AllWritable (w ∷ ws) → Says (treeOf (w ∷ ws)) at b p → drop at s ≡ b ++ u → Ours s p
       → FieldAt w (treeOf ws) b u p
   unfolding fieldsTree
-  first-field w ws at b u p a y e o = field-at w (treeOf ws) at b u p (a .can) (λ f. no-frames ws (a .others) (rw f at (a .once))) y e o
+  first-field w ws at b u p g y e o = field-at (g .0 .can) (treeOf ws) at b u p (λ f. no-frames ws (g .1) (rw f at (g .0 .once))) y e o
 
   -- a number that no field takes stays as it was
-  stays : (ws : List What) (at : ℕ) (b u : List ℕ) (p : Pieces) (l : List ℕ) → written ws ≡ true → Says (treeOf ws) at b p → drop at s ≡ b ++ u → Ours s p
+  stays : (ws : List What) (at : ℕ) (b u : List ℕ) (p : Pieces) (l : List ℕ) → AllWritable ws → Says (treeOf ws) at b p → drop at s ≡ b ++ u → Ours s p
       → (j : ℕ) → taken ws j ≡ false → getD (numbersOf l p) j 0 ≡ getD l j 0
   unfolding fieldsTree numbersOf
   stays [] at b u p l g (says-end at') e o j h = refl
   stays (w ∷ ws) at b u p l g y e o j h =
-      let a = parts w ws g in
-      let x = first-field w ws at b u p a y e o in
+      let x = first-field w ws at b u p g y e o in
       let r = x .rest in
       let d = neither-true _ (taken ws j) h in
       ap (λ (ns : List ℕ). getD ns j 0) (x .numbers l)
-      ∙ stays ws (r .place) (r .bytes) u (r .pieces) (put l (targetIn w) (x .value)) (a .others) (r .says) (r .stands) (r .ours) j (d .1)
+      ∙ stays ws (r .place) (r .bytes) u (r .pieces) (put l (targetIn w) (x .value)) (g .1) (r .says) (r .stands) (r .ours) j (d .1)
       ∙ put-other l (targetIn w) (x .value) j (d .0)
 
   -- so the number of the first field is among those that are read in the end
-  first-value : (w : What) (ws : List What) (b u : List ℕ) (p : Pieces) (l : List ℕ) → Written w ws → length l ≡ 15 → (x : FieldAt w (treeOf ws) b u p)
+  first-value : (w : What) (ws : List What) (b u : List ℕ) (p : Pieces) (l : List ℕ) → AllWritable (w ∷ ws) → length l ≡ 15 → (x : FieldAt w (treeOf ws) b u p)
       → valueFor (numbersOf l p) (targetIn w) ≡ x .value
-  first-value w ws b u p l a h x =
+  first-value w ws b u p l g h x =
       let r = x .rest in
       let l' = put l (targetIn w) (x .value) in
       rw (x .numbers l)
-      (value-stays l (numbersOf l' (r .pieces)) (targetIn w) (x .value) ws (in-range w (a .can)) (a .own) h (x .our)
-      (stays ws (r .place) (r .bytes) u (r .pieces) l' (a .others) (r .says) (r .stands) (r .ours)))
+      (value-stays l (numbersOf l' (r .pieces)) (targetIn w) (x .value) ws (in-record (g .0 .can)) (g .0 .own) h (x .our)
+      (stays ws (r .place) (r .bytes) u (r .pieces) l' (g .1) (r .says) (r .stands) (r .ours)))
 
   -- ---- the fields, written again
   record Again (ns c : List ℕ) (cs : List (List ℕ)) (ws : List What) (b : List ℕ) : Type 0 where
@@ -280,21 +271,20 @@ module _ (s : List ℕ) where
   not-first true b e f = absurd (never-true (sym e ∙ f))
   not-first false b e f = refl
 
-  again : (ws : List What) (at : ℕ) (b u : List ℕ) (p : Pieces) (l ns c : List ℕ) → written ws ≡ true → Says (treeOf ws) at b p → drop at s ≡ b ++ u → Ours s p
+  again : (ws : List What) (at : ℕ) (b u : List ℕ) (p : Pieces) (l ns c : List ℕ) → AllWritable ws → Says (treeOf ws) at b p → drop at s ≡ b ++ u → Ours s p
       → length l ≡ 15 → ns ≡ numbersOf l p → (hasFrames ws ≡ true → c ≡ payloadOf s p) → Again ns c (shown s p) ws b
   unfolding fieldsTree shown entriesFor fieldsBytes hasFrames
   again [] at b u p l ns c g (says-end at') e o h m f = record { ours = tt; uses = λ slots n k. ap ok (sym (add-zero n)); bytes = refl }
   again (w ∷ ws) at b u p l ns c g y e o h m f =
-      let a = parts w ws g in
-      let x = first-field w ws at b u p a y e o in
+      let x = first-field w ws at b u p g y e o in
       let r = x .rest in
       let t = targetIn w in
       let n = length (x .these) in
-      let is : valueFor ns t ≡ x .value = rw m (first-value w ws b u p l a h x) in
+      let is : valueFor ns t ≡ x .value = rw m (first-value w ws b u p l g h x) in
       let many : stringsIn ns w ≡ n = x .many ns is in
       let all : length (shown s p) ≡ n + length (shown s (r .pieces)) = ap length (x .shows) ∙ length-append (x .these) (shown s (r .pieces)) in
-      let bare = not-first (isFramed w) (hasFrames ws) (a .once) in
-      let i = again ws (r .place) (r .bytes) u (r .pieces) (put l t (x .value)) ns c (a .others) (r .says) (r .stands) (r .ours) in
+      let bare = not-first (isFramed w) (hasFrames ws) (g .0 .once) in
+      let i = again ws (r .place) (r .bytes) u (r .pieces) (put l t (x .value)) ns c (g .1) (r .says) (r .stands) (r .ours) in
       let j = i (put-length l t (x .value) ∙ h) (m ∙ x .numbers l) (λ k. f (rw (bare k) k) ∙ x .payload (bare k)) in
       record {
         ours = (rw is (x .our), j .ours);
@@ -362,7 +352,7 @@ none-zero (suc n) zero = refl
 none-zero (suc n) (suc j) = none-zero n j
 
 -- any list of fields that can be written, whatever follows the entries
-module _ (s : List ℕ) (bytes : Bytes s) (ws : List What) (w : written ws ≡ true) where
+module _ (s : List ℕ) (bytes : Bytes s) (ws : List What) (w : AllWritable ws) where
   -- 14 does not hold
   of-shape : (at : ℕ) (b u : List ℕ) (p : Pieces) (ns : List ℕ) → Says (treeOf ws) at b p → drop at s ≡ b ++ u → Ours s p → ns ≡ numbersOf (allOf blank) p → OurNumbers ns ws
       → isOfShape ns (payloadOf s p) ws ≡ true

@@ -2,7 +2,7 @@
 use Prim.Native.Nat.{ℕ, zero, suc, _+_, _*_, _≤_, _<_}
 use mathlib.Core.Path.{_≡_, refl, sym, _∙_, ap}
 use mathlib.Core.List.{List, [], _∷_, _++_, append-assoc}
-use mathlib.Core.Bool.{Bool, true, false, _&&_}
+use mathlib.Core.Bool.{Bool, true, false}
 use lib.ListN.{length, getD, take, drop, replicate, length-append, length-drop, length-take, length-replicate, length-set, take-append-drop}
 use lib.ListN as ListN
 use lib.Seq.{take-append-seam, set-append-left, getD-set-same, getD-set-other}
@@ -13,19 +13,20 @@ use native.Mathlib.Nat.{add-zero, zero-add}
 use Rattle.text.proofs.Meaning.{text-is}
 use Rattle.layouts.specs.declared.Record.{Record}
 use Rattle.layouts.specs.Primitive.{pick, numberBytes, limit, padOf, Version, Result, ok}
-use Rattle.layouts.specs.Shape.{Target, dropped, asNumber, asFlag, asCount, asPresence, Role, passed, checked, kept, What, num, str, set, pairs, framed, maybe, typed, Gated, Tree, ask, say, frames, strings, units, field, there, what, gated, fields, truth}
+use Rattle.layouts.specs.Shape.{Target, dropped, asNumber, asFlag, asCount, asPresence, kept, What, num, str, set, pairs, framed, maybe, typed, Gated, Tree, ask, say, frames, strings, units, field, there, what, gated, fields, truth}
 use Rattle.layouts.specs.Pieces.{Pieces, number, text, chunk}
-use Rattle.layouts.specs.Record.{isKept, withEntries, withPayload, noted, entered}
+use Rattle.layouts.specs.Record.{withEntries, withPayload, noted, entered}
 use Rattle.layouts.specs.Judge.{Ended, notText, textTaken, chunkTaken, judgeOf, entriesOf, payloadOf}
 use Rattle.layouts.specs.Grammar.{Says, says-number, says-text, says-chunk, says-last}
 use Rattle.layouts.specs.Writers.{stringBytes, stringsBytes, chunksBytes, framedBytes, textAt, textsFrom}
 use Rattle.layouts.specs.Demands.{Strings}
-use Rattle.layouts.specs.CallWriter.{fieldsThere, valueFor, targetIn, leave, isFramed, hasFrames, stringsIn, fieldBytes}
+use Rattle.layouts.specs.CallWriter.{fieldsThere, valueFor, targetIn, leave, isFramed, stringsIn, fieldBytes}
 use Rattle.layouts.proofs.Little.{length-number}
 use Rattle.layouts.proofs.Exact.{past}
 use Rattle.layouts.proofs.Judge.{noted-room}
-use Rattle.layouts.proofs.Lowers.{not-both}
+use Rattle.layouts.proofs.Theorems.{never-true}
 use Rattle.layouts.proofs.RoundTrip.{first-at, view-at}
+use Rattle.layouts_calls.proofs.Writable.{inRecord, Writable, a-number, a-string, a-set, some-pairs, framed-data}
 
 -- ---- the fields that are there, as a tree
 unfoldable pub fieldsTree : List What → (Unit {0} → Tree) → Tree
@@ -41,122 +42,6 @@ fields-there v (x ∷ xs) k = by (there v x) (fields-there v xs k)
         → gated b (what x) (λ u. fields v xs k) ≡ fieldsTree (pick b (what x ∷ fieldsThere v xs) (fieldsThere v xs)) k
     by true h = ap (λ (t : Tree). field (what x) (λ u. t)) h
     by false h = h
-
--- ---- fields that a call may have: every string is kept, and every number and count has its place in the record
-abbrev pub Within : Target → Type 0
-Within dropped = Unit {0}
-Within (asNumber i) = i < 12
-Within (asFlag i) = i < 12
-Within (asCount i) = i < 3
-Within asPresence = ⊥
-
-pub data Writable : What → Type 0 where
-  a-number : (t : Target) → Within t → Writable (num t)
-  a-string : Writable (str kept)
-  a-set : (i : ℕ) → i < 3 → Writable (set kept (asCount i))
-  some-pairs : (i : ℕ) → i < 3 → Writable (pairs kept (asCount i))
-  framed-data : Writable framed
-
--- and framed data comes once
-abbrev pub AllWritable : List What → Type 0
-AllWritable [] = Unit {0}
-AllWritable (w ∷ ws) = Writable w × (isFramed w && hasFrames ws ≡ false) × AllWritable ws
-
--- the same as a test, for the table
-abbrev inRecord : Target → Bool
-inRecord dropped = true
-inRecord (asNumber i) = ltb i 12
-inRecord (asFlag i) = ltb i 12
-inRecord (asCount i) = ltb i 3
-inRecord asPresence = false
-
-abbrev isCount : Target → Bool
-isCount dropped = false
-isCount (asNumber i) = false
-isCount (asFlag i) = false
-isCount (asCount i) = ltb i 3
-isCount asPresence = false
-
-abbrev isWritable : What → Bool
-isWritable (num t) = inRecord t
-isWritable (str m) = isKept m
-isWritable (set m t) = isKept m && isCount t
-isWritable (pairs m t) = isKept m && isCount t
-isWritable framed = true
-isWritable maybe = false
-isWritable typed = false
-
-abbrev isNone : List Gated → Bool
-isNone [] = true
-isNone (x ∷ xs) = false
-
--- framed data is last
-abbrev pub areWritable : List Gated → Bool
-areWritable [] = true
-areWritable (x ∷ xs) = isWritable (what x) && (pick (isFramed (what x)) (isNone xs) true && areWritable xs)
-
-pub and-true : (a b : Bool) → a && b ≡ true → (a ≡ true) × (b ≡ true)
-and-true true b h = (refl, h)
-and-true false b h = absurd (not-both h refl)
-
-kept-by : (m : Role) → isKept m ≡ true → m ≡ kept
-kept-by passed h = cc
-kept-by checked h = cc
-kept-by kept h = refl
-
-count-by : (t : Target) → isCount t ≡ true → (i : ℕ) × (t ≡ asCount i) × (i < 3)
-count-by dropped h = absurd (not-both h refl)
-count-by (asNumber i) h = absurd (not-both h refl)
-count-by (asFlag i) h = absurd (not-both h refl)
-count-by (asCount i) h = (i, refl, ltb-true i 3 h)
-count-by asPresence h = absurd (not-both h refl)
-
-target-by : (t : Target) → inRecord t ≡ true → Within t
-target-by dropped h = tt
-target-by (asNumber i) h = ltb-true i 12 h
-target-by (asFlag i) h = ltb-true i 12 h
-target-by (asCount i) h = ltb-true i 3 h
-target-by asPresence h = absurd (not-both h refl)
-
-writable-by : (w : What) → isWritable w ≡ true → Writable w
-writable-by (num t) h = a-number t (target-by t h)
-writable-by (str m) h = rw (kept-by m h) a-string
-writable-by (set m t) h =
-    let z = and-true (isKept m) (isCount t) h in
-    let c = count-by t (z .1) in
-    rw (kept-by m (z .0), c .1) (a-set (c .0) (c .2))
-writable-by (pairs m t) h =
-    let z = and-true (isKept m) (isCount t) h in
-    let c = count-by t (z .1) in
-    rw (kept-by m (z .0), c .1) (some-pairs (c .0) (c .2))
-writable-by framed h = framed-data
-writable-by maybe h = absurd (not-both h refl)
-writable-by typed h = absurd (not-both h refl)
-
-last-alone : (v : Version) (w : What) (xs : List Gated) → pick (isFramed w) (isNone xs) true ≡ true → isFramed w && hasFrames (fieldsThere v xs) ≡ false
-unfolding fieldsThere hasFrames
-last-alone v w [] h = by (isFramed w)
-  where
-    by : (b : Bool) → b && false ≡ false
-    by true = refl
-    by false = refl
-last-alone v w (x ∷ xs) h = by (isFramed w) h
-  where
-    by : (b : Bool) → pick b false true ≡ true → b && hasFrames (fieldsThere v (x ∷ xs)) ≡ false
-    by true h = absurd (not-both h refl)
-    by false h = refl
-
-pub all-writable : (v : Version) (xs : List Gated) → areWritable xs ≡ true → AllWritable (fieldsThere v xs)
-unfolding fieldsThere
-all-writable v [] h = tt
-all-writable v (x ∷ xs) h =
-    let a = and-true (isWritable (what x)) (pick (isFramed (what x)) (isNone xs) true && areWritable xs) h in
-    let b = and-true (pick (isFramed (what x)) (isNone xs) true) (areWritable xs) (a .1) in
-    by (there v x) (writable-by (what x) (a .0), last-alone v (what x) xs (b .0), all-writable v xs (b .1))
-  where
-    by : (b : Bool) → AllWritable (what x ∷ fieldsThere v xs) → AllWritable (pick b (what x ∷ fieldsThere v xs) (fieldsThere v xs))
-    by true g = g
-    by false g = g .2
 
 -- ---- the pieces of what is written, before those of what follows
 unfoldable pub textsThen : (at : ℕ) → List (List ℕ) → Pieces → Pieces
@@ -236,13 +121,13 @@ module _ (ns p : List ℕ) (small : (j : ℕ) → getD ns j 0 < 1844674407370955
   value-small asPresence = omega arith
 
   -- a count and as many strings
-  says-counted : (i n : ℕ) (cs : List (List ℕ)) (at last : ℕ) (t : ℕ → Tree) (k : Unit {0} → Tree) (b : List ℕ) (q : Pieces) → n < 18446744073709551616
+  says-counted : (i : Target) (n : ℕ) (cs : List (List ℕ)) (at last : ℕ) (t : ℕ → Tree) (k : Unit {0} → Tree) (b : List ℕ) (q : Pieces) → n < 18446744073709551616
       → t n ≡ strings kept (length cs) k → Strings cs → at + length (numberBytes n ++ stringsBytes cs) ≡ last → Says (k tt) last b q
-      → Says (ask (asCount i) t) at ((numberBytes n ++ stringsBytes cs) ++ b) (number (asCount i) at n (textsThen (at + 8) cs q))
+      → Says (ask i t) at ((numberBytes n ++ stringsBytes cs) ++ b) (number i at n (textsThen (at + 8) cs q))
   says-counted i n cs at last t k b q h e g l y =
       let l' = simp (length-append, length-number) at l in
       simp append-assoc
-      (says-number (asCount i) n at t (stringsBytes cs ++ b) (textsThen (at + 8) cs q) h (rw e (says-texts cs (at + 8) last k b q g (omega arith) y)))
+      (says-number i n at t (stringsBytes cs ++ b) (textsThen (at + 8) cs q) h (rw e (says-texts cs (at + 8) last k b q g (omega arith) y)))
 
   pub says-field : {w : What} → Writable w → (cs : List (List ℕ)) (at last : ℕ) (k : Unit {0} → Tree) (b : List ℕ) (q : Pieces) → length cs ≡ stringsIn ns w → Strings cs
       → at + length (fieldBytes ns p cs w) ≡ last → Says (k tt) last b q → Says (field w k) at (fieldBytes ns p cs w ++ b) (fieldPieces ns p cs w at q)
@@ -251,11 +136,11 @@ module _ (ns p : List ℕ) (small : (j : ℕ) → getD ns j 0 < 1844674407370955
       says-number t (valueFor ns t) at (λ n. k tt) b q (value-small t) (rw (← l, length-number) at y)
   says-field a-string cs at last k b q n g l y = rw n at (says-texts cs at last k b q g l y)
   says-field (a-set i h) cs at last k b q n g l y =
-      let c = valueFor ns (asCount i) in
-      says-counted i c cs at last (λ n. units kept 0 n k) k b q (value-small (asCount i)) (units-one c k ∙ ap (λ (m : ℕ). strings kept m k) (sym n)) g l y
+      let c = valueFor ns i in
+      says-counted i c cs at last (λ n. units kept 0 n k) k b q (value-small i) (units-one c k ∙ ap (λ (m : ℕ). strings kept m k) (sym n)) g l y
   says-field (some-pairs i h) cs at last k b q n g l y =
-      let c = valueFor ns (asCount i) in
-      says-counted i c cs at last (λ n. units kept 1 n k) k b q (value-small (asCount i)) (units-two c k ∙ ap (λ (m : ℕ). strings kept m k) (sym n)) g l y
+      let c = valueFor ns i in
+      says-counted i c cs at last (λ n. units kept 1 n k) k b q (value-small i) (units-two c k ∙ ap (λ (m : ℕ). strings kept m k) (sym n)) g l y
   says-field framed-data cs at last k b q n g l y = says-chunks (length p) p at last k b q l y
 
 -- ---- strings and chunks, read where they stand
@@ -410,13 +295,13 @@ module _ (ns : List ℕ) where
           same = rw (← e) (same-set left (r .numbers ++ r .counts) (12 + i) x 0 (omega arith) (simp length-append (omega arith)) (λ q. f) (a .same));
         })
 
-    agrees-noted : (t : Target) → Within t → let o = noted r t (valueFor ns t) in Agrees ns (leave ns left t) (o .numbers) (o .counts) (o .present)
+    agrees-noted : (t : Target) → inRecord t ≡ true → let o = noted r t (valueFor ns t) in Agrees ns (leave ns left t) (o .numbers) (o .counts) (o .present)
     unfolding noted leave valueFor
     agrees-noted dropped w = a
-    agrees-noted (asNumber i) w = agrees-number i (getD ns i 0) 0 w (λ q. refl)
-    agrees-noted (asFlag i) w = agrees-number i (truth (getD ns i 0)) (pick (leb (getD ns i 0) 1) 0 (getD ns i 0)) w (flag-same (getD ns i 0))
-    agrees-noted (asCount i) w = agrees-count i (getD ns (12 + i) 0) w refl
-    agrees-noted asPresence w = absurd w
+    agrees-noted (asNumber i) w = agrees-number i (getD ns i 0) 0 (ltb-true i 12 w) (λ q. refl)
+    agrees-noted (asFlag i) w = agrees-number i (truth (getD ns i 0)) (pick (leb (getD ns i 0) 1) 0 (getD ns i 0)) (ltb-true i 12 w) (flag-same (getD ns i 0))
+    agrees-noted (asCount i) w = agrees-count i (getD ns (12 + i) 0) (ltb-true i 3 w) refl
+    agrees-noted asPresence w = absurd (never-true w)
 
 -- ---- a field, read where it stands
 no-strings : (cs : List (List ℕ)) → length cs ≡ 0 → cs ≡ []
@@ -442,10 +327,10 @@ module _ (ns p s : List ℕ) where
       let z = no-strings cs n in
       record { place = at; rest = drop at s; stand = rw z; entries = rw z }
   strings-in a-string cs at q u n e = record { place = at; rest = u; stand = e; entries = refl }
-  strings-in (a-set i h) cs at q u n e =
-      record { place = at + 8; rest = u; stand = after-number (valueFor ns (asCount i)) at (stringsBytes cs) u e; entries = refl }
-  strings-in (some-pairs i h) cs at q u n e =
-      record { place = at + 8; rest = u; stand = after-number (valueFor ns (asCount i)) at (stringsBytes cs) u e; entries = refl }
+  strings-in (a-set t h) cs at q u n e =
+      record { place = at + 8; rest = u; stand = after-number (valueFor ns t) at (stringsBytes cs) u e; entries = refl }
+  strings-in (some-pairs t h) cs at q u n e =
+      record { place = at + 8; rest = u; stand = after-number (valueFor ns t) at (stringsBytes cs) u e; entries = refl }
   strings-in framed-data cs at q u n e =
       let z = no-strings cs n in
       record { place = at; rest = drop at s; stand = rw z; entries = rw z (entries-chunks s (length p) p at q) }
@@ -455,8 +340,8 @@ module _ (ns p s : List ℕ) where
   unfolding fieldBytes fieldPieces framedBytes payloadOf
   payload-field (a-number t h) cs at q u e = refl
   payload-field a-string cs at q u e = payload-texts s cs at q
-  payload-field (a-set i h) cs at q u e = payload-texts s cs (at + 8) q
-  payload-field (some-pairs i h) cs at q u e = payload-texts s cs (at + 8) q
+  payload-field (a-set t h) cs at q u e = payload-texts s cs (at + 8) q
+  payload-field (some-pairs t h) cs at q u e = payload-texts s cs (at + 8) q
   payload-field framed-data cs at q u e = payload-chunks s (length p) p u at q e (omega arith)
 
   module _ (slots room : ℕ) where
@@ -470,16 +355,17 @@ module _ (ns p s : List ℕ) where
 
     module _ (cs : List (List ℕ)) (at : ℕ) (left : List ℕ) (r : Record) (q : Pieces) (u : List ℕ) (g : Strings cs) (fits : r .entries + length cs ≤ slots)
         (a : Agrees ns left (r .numbers) (r .counts) (r .present)) where
-      taken-counted : (i : ℕ) → i < 3 → drop at s ≡ (numberBytes (valueFor ns (asCount i)) ++ stringsBytes cs) ++ u
-          → Taken cs (asCount i) 0 left r (number (asCount i) at (valueFor ns (asCount i)) (textsThen (at + 8) cs q)) q
-      unfolding judgeOf noted
-      taken-counted i h e =
-          let c = valueFor ns (asCount i) in
-          let n = noted r (asCount i) c in
+      taken-counted : (t : Target) → inRecord t ≡ true → drop at s ≡ (numberBytes (valueFor ns t) ++ stringsBytes cs) ++ u
+          → Taken cs t 0 left r (number t at (valueFor ns t) (textsThen (at + 8) cs q)) q
+      unfolding judgeOf
+      taken-counted t h e =
+          let c = valueFor ns t in
+          let n = noted r t c in
+          let z = noted-room r t c in
           record {
             next = withEntries n (r .entries + length cs);
-            judged = judge-texts s slots room cs (at + 8) (r .entries + length cs) u n q (after-number c at (stringsBytes cs) u e) g refl fits;
-            agrees = agrees-noted ns left r a (asCount i) h;
+            judged = judge-texts s slots room cs (at + 8) (r .entries + length cs) u n q (after-number c at (stringsBytes cs) u e) g (omega arith) fits;
+            agrees = agrees-noted ns left r a t h;
             entries = refl;
             payload = omega arith;
           }
@@ -498,8 +384,8 @@ module _ (ns p s : List ℕ) where
             entries = refl;
             payload = omega arith;
           }
-      taken (a-set i h) n e l = taken-counted i h e
-      taken (some-pairs i h) n e l = taken-counted i h e
+      taken (a-set t h) n e l = taken-counted t h e
+      taken (some-pairs t h) n e l = taken-counted t h e
       taken framed-data n e l =
           record {
             next = withPayload r (r .payload + length p);

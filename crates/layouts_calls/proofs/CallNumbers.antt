@@ -2,8 +2,8 @@
 -- stays 0. So the writer's 14 does not hold of what was read.
 use Prim.Native.Nat.{ℕ, zero, suc, _+_, _≤_, _<_}
 use mathlib.Core.Path.{_≡_, refl, sym, _∙_, ap}
-use mathlib.Core.List.{List, [], _∷_, _++_, map}
-use mathlib.Core.Bool.{Bool, true, false, not, _&&_, _||_}
+use mathlib.Core.List.{List, [], _∷_, _++_}
+use mathlib.Core.Bool.{Bool, true, false}
 use lib.ListN.{length, getD, length-set}
 use lib.ListN as ListN
 use lib.Seq.{set-append-left, getD-set-same, getD-set-other}
@@ -11,81 +11,16 @@ use lib.Dec.{ltb, eqb}
 use borrow.Author.Tests.{not-true, ltb-true, eqb-true, eqb-false, le-leb}
 use native.Mathlib.Omega.{arith}
 use Rattle.layouts.specs.declared.Record.{Record}
-use Rattle.layouts.specs.Primitive.{pick, Version}
-use Rattle.layouts.specs.Shape.{Target, dropped, asNumber, asFlag, asCount, asPresence, What, num, str, set, pairs, framed, maybe, typed, Gated, there, what, truth, Tree}
+use Rattle.layouts.specs.Primitive.{pick}
+use Rattle.layouts.specs.Shape.{Target, dropped, asNumber, asFlag, asCount, asPresence, What, truth, Tree}
 use Rattle.layouts.specs.Pieces.{Pieces, number, text, half, chunk, end, fault}
 use Rattle.layouts.specs.Grammar.{Says, says-number, says-text, says-chunk, says-last, says-end}
-use Rattle.layouts.specs.Record.{noted, isKept, entered, withPayload, recordOf}
-use Rattle.layouts.specs.CallWriter.{fieldsThere, valueFor, targetIn, leave, leftBy, allZero, isFramed, hasFrames}
+use Rattle.layouts.specs.Record.{noted, entered, withPayload, recordOf}
+use Rattle.layouts.specs.CallWriter.{valueFor, targetIn, leave, leftBy, allZero}
 use Rattle.layouts.proofs.Theorems.{never-true}
 use Rattle.layouts_calls.specs.CallOurs.{OurNumber}
-use Rattle.layouts_calls.proofs.CallFields.{and-true, set-append-right}
-
-pub neither-true : (a b : Bool) → a || b ≡ false → (a ≡ false) × (b ≡ false)
-neither-true true b e = absurd (never-true (sym e))
-neither-true false b e = (refl, e)
-
--- ---- fields that can be written: the place of a number is among the fifteen and no other field's, strings are kept, and framed data comes once
-abbrev pub inRange : Target → Bool
-inRange dropped = true
-inRange (asNumber i) = ltb i 12
-inRange (asFlag i) = ltb i 12
-inRange (asCount i) = ltb i 3
-inRange asPresence = false
-
-abbrev pub writable : What → Bool
-writable (num t) = inRange t
-writable (str m) = isKept m
-writable (set m t) = isKept m && inRange t
-writable (pairs m t) = isKept m && inRange t
-writable framed = true
-writable maybe = false
-writable typed = false
-
-pub in-range : (w : What) → writable w ≡ true → inRange (targetIn w) ≡ true
-in-range (num t) e = e
-in-range (str m) e = refl
-in-range (set m t) e = and-true (isKept m) (inRange t) e .1
-in-range (pairs m t) e = and-true (isKept m) (inRange t) e .1
-in-range framed e = refl
-in-range maybe e = absurd (never-true e)
-in-range typed e = absurd (never-true e)
-
--- is this place one that a target takes? one of the fields?
-abbrev pub takes : Target → ℕ → Bool
-takes dropped j = false
-takes (asNumber i) j = eqb i j
-takes (asFlag i) j = eqb i j
-takes (asCount i) j = eqb (12 + i) j
-takes asPresence j = false
-
-abbrev pub taken : List What → ℕ → Bool
-taken [] j = false
-taken (w ∷ ws) j = takes (targetIn w) j || taken ws j
-
-abbrev pub free : Target → List What → Bool
-free dropped ws = true
-free (asNumber i) ws = not (taken ws i)
-free (asFlag i) ws = not (taken ws i)
-free (asCount i) ws = not (taken ws (12 + i))
-free asPresence ws = true
-
-abbrev pub written : List What → Bool
-written [] = true
-written (w ∷ ws) = writable w && (free (targetIn w) ws && (not (isFramed w && hasFrames ws) && written ws))
-
-pub record Written (w : What) (ws : List What) : Type 0 where
-  pub can : writable w ≡ true
-  pub own : free (targetIn w) ws ≡ true
-  pub once : isFramed w && hasFrames ws ≡ false
-  pub others : written ws ≡ true
-
-pub parts : (w : What) (ws : List What) → written (w ∷ ws) ≡ true → Written w ws
-parts w ws e =
-    let a = and-true (writable w) _ e in
-    let b = and-true (free (targetIn w) ws) _ (a .1) in
-    let c = and-true (not (isFramed w && hasFrames ws)) _ (b .1) in
-    record { can = a .0; own = b .0; once = not-true _ (c .0); others = c .1 }
+use Rattle.layouts_calls.proofs.Writable.{either, inRecord, takes, taken, free}
+use Rattle.layouts_calls.proofs.CallFields.{set-append-right}
 
 -- ---- the numbers that pieces make
 abbrev pub put : List ℕ → Target → ℕ → List ℕ
@@ -102,10 +37,6 @@ numbersOf l (half m start len) = l
 numbersOf l (chunk start len p) = numbersOf l p
 numbersOf l (end place) = l
 numbersOf l (fault which place) = l
-
-either : {A : Type 0} (P : A → Type 0) (b : Bool) (x y : A) → P x → P y → P (pick b x y)
-either P true x y f g = f
-either P false x y f g = g
 
 pub put-length : (l : List ℕ) (t : Target) (x : ℕ) → length (put l t x) ≡ length l
 put-length l dropped x = refl
@@ -130,7 +61,7 @@ low-truth (suc zero) h = refl
 low-truth (suc (suc n)) h = absurd (omega arith)
 
 -- a number that is put at a target's place is the one that is written for it
-put-value : (l : List ℕ) (t : Target) (n : ℕ) → inRange t ≡ true → length l ≡ 15 → OurNumber t n → valueFor (put l t n) t ≡ n
+put-value : (l : List ℕ) (t : Target) (n : ℕ) → inRecord t ≡ true → length l ≡ 15 → OurNumber t n → valueFor (put l t n) t ≡ n
 unfolding valueFor
 put-value l dropped n e h o = sym o
 put-value l (asNumber i) n e h o = let z = ltb-true i 12 e in rw e (getD-set-same l i n 0 (omega arith))
@@ -139,7 +70,7 @@ put-value l (asCount i) n e h o = let z = ltb-true i 3 e in rw e (getD-set-same 
 put-value l asPresence n e h o = absurd (never-true e)
 
 -- and it stays, where nothing that follows takes its place
-pub value-stays : (l ns : List ℕ) (t : Target) (n : ℕ) (ws : List What) → inRange t ≡ true → free t ws ≡ true → length l ≡ 15 → OurNumber t n
+pub value-stays : (l ns : List ℕ) (t : Target) (n : ℕ) (ws : List What) → inRecord t ≡ true → free t ws ≡ true → length l ≡ 15 → OurNumber t n
     → ((j : ℕ) → taken ws j ≡ false → getD ns j 0 ≡ getD (put l t n) j 0) → valueFor ns t ≡ n
 unfolding valueFor
 value-stays l ns dropped n ws e f h o g = sym o
@@ -263,41 +194,3 @@ unfolding leftBy
 left-zero ns left [] o g j = g j refl
 left-zero ns left (w ∷ ws) o g j =
     left-zero ns (leave ns left (targetIn w)) ws (o .1) (λ k h. leave-zero ns left k (targetIn w) (o .0) (λ e. g k (rw e h))) j
-
--- ---- the fields that are there at a version are some of a row's
-module _ (v : Version) where
-  fewer-taken : (xs : List Gated) (j : ℕ) → taken (map what xs) j ≡ false → taken (fieldsThere v xs) j ≡ false
-  unfolding fieldsThere
-  fewer-taken [] j e = refl
-  fewer-taken (x ∷ xs) j e =
-      let a = neither-true (takes (targetIn (what x)) j) _ e in
-      let h = fewer-taken xs j (a .1) in
-      either (λ (ws : List What). taken ws j ≡ false) (there v x) _ _ (rw (a .0) h) h
-
-  fewer-frames : (xs : List Gated) → hasFrames (map what xs) ≡ false → hasFrames (fieldsThere v xs) ≡ false
-  unfolding fieldsThere hasFrames
-  fewer-frames [] e = refl
-  fewer-frames (x ∷ xs) e =
-      let a = neither-true (isFramed (what x)) _ e in
-      let h = fewer-frames xs (a .1) in
-      either (λ (ws : List What). hasFrames ws ≡ false) (there v x) _ _ (rw (a .0) h) h
-
-  fewer-free : (xs : List Gated) (t : Target) → free t (map what xs) ≡ true → free t (fieldsThere v xs) ≡ true
-  fewer-free xs dropped e = refl
-  fewer-free xs (asNumber i) e = ap not (fewer-taken xs i (not-true _ e))
-  fewer-free xs (asFlag i) e = ap not (fewer-taken xs i (not-true _ e))
-  fewer-free xs (asCount i) e = ap not (fewer-taken xs (12 + i) (not-true _ e))
-  fewer-free xs asPresence e = refl
-
-  fewer-once : (xs : List Gated) (b : Bool) → b && hasFrames (map what xs) ≡ false → b && hasFrames (fieldsThere v xs) ≡ false
-  fewer-once xs true e = fewer-frames xs e
-  fewer-once xs false e = refl
-
-  pub fewer-written : (xs : List Gated) → written (map what xs) ≡ true → written (fieldsThere v xs) ≡ true
-  unfolding fieldsThere
-  fewer-written [] e = refl
-  fewer-written (x ∷ xs) e =
-      let w = what x in
-      let a = parts w (map what xs) e in
-      let h = fewer-written xs (a .others) in
-      either (λ (ws : List What). written ws ≡ true) (there v x) _ _ (rw (a .can, fewer-free xs (targetIn w) (a .own), fewer-once xs (isFramed w) (a .once)) h) h

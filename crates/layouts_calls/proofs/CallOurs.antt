@@ -10,14 +10,14 @@ use lib.Dec.{eqb}
 use borrow.Author.Tests.{ne-eqb}
 use native.Mathlib.Omega.{arith}
 use Rattle.layouts.specs.Primitive.{Version, Result, ok, onward}
-use Rattle.layouts.specs.Shape.{What, what, once, Tree, stop, group, groups, layout}
+use Rattle.layouts.specs.Shape.{What, once, Tree, stop, group, groups, layout}
 use Rattle.layouts.specs.Pieces.{run}
 use Rattle.layouts.specs.Record.{blank}
 use Rattle.layouts.specs.Judge.{Ended, judgeOf, entriesOf, payloadOf}
 use Rattle.layouts.specs.Operations.{argumentsNumber, Choice, none, only, byVersion, byFlag, byNumber, kindOf, Operation, operations, Row, row, unknown, find}
 use Rattle.layouts.specs.Calls.{byRow, argumentsTree, argumentsKinds, Answer, answered, readOf, readOpArgs}
 use Rattle.layouts.specs.Demands.{Bytes}
-use Rattle.layouts.specs.CallWriter.{fieldsThere, hasFrames, fieldsBy, callFields, shapeBytes, callBytes, writeOpArgs}
+use Rattle.layouts.specs.CallWriter.{fieldsThere, fieldsBy, callFields, shapeBytes, callBytes, writeOpArgs}
 use Rattle.layouts.proofs.Exact.{sound}
 use Rattle.layouts.proofs.Placed.{never-both, run-placed, ends}
 use Rattle.layouts.proofs.Judge.{judge-read}
@@ -27,15 +27,12 @@ use Rattle.layouts.proofs.Arguments.{found}
 use Rattle.layouts.proofs.Writers.{writing-fits}
 use Rattle.layouts_calls.specs.CallTrips.{Fifteen, callPieces}
 use Rattle.layouts_calls.specs.CallOurs.{Ours}
-use Rattle.layouts_calls.proofs.CallFields.{fields-there, and-true}
-use Rattle.layouts_calls.proofs.CallNumbers.{written, numbersOf, numbers-length, numbers-small, allOf, record-all, fewer-written}
+use Rattle.layouts_calls.proofs.Writable.{and-true, row-writable}
+use Rattle.layouts_calls.proofs.CallFields.{fields-there}
+use Rattle.layouts_calls.proofs.CallNumbers.{numbersOf, numbers-length, numbers-small, allOf, record-all}
 use Rattle.layouts_calls.proofs.CallAgain.{treeOf, entries-within, none-zero, fields-written}
 
--- ---- the table: computed of all operations, every row can be written, and no kind of arguments asks for a flag
-all-written : map (λ (o : Operation). written (map what (o .arguments))) operations ≡ map (λ (o : Operation). true) operations
-unfolding operations hasFrames
-all-written = refl
-
+-- ---- the table: computed of all operations, no kind of arguments asks for a flag
 abbrev flagless : {K : Type 0} → Choice K → Bool
 flagless none = true
 flagless (only k) = true
@@ -73,13 +70,11 @@ module _ (op : ℕ) (v : Version) (s : List ℕ) (slots room : ℕ) (a : Answer)
 
   row-again : (o : Operation) (x : Ended) → Bytes s → find op ≡ row o → answered v (argumentsKinds op) (ok x) ≡ ok a → (t : Tree) → treeOf (fieldsThere v (o .arguments)) ≡ t
       → judgeOf s slots room blank (run t s 0) ≡ ok x → Ours s (run t s 0) → FieldsAgain t (ok (fieldsThere v (o .arguments)))
-  unfolding find
   row-again o x bytes e q t same =
-      let w = fewer-written v (o .arguments) (found _ _ operations op o all-written e .0) in
       let there : x .found ≡ a .found = cc in
       let ends : x .ends ≡ a .ends = cc in
       subst (λ (u : Tree). judgeOf s slots room blank (run u s 0) ≡ ok x → Ours s (run u s 0) → FieldsAgain u (ok (fieldsThere v (o .arguments)))) same
-      (λ j ours. rw (← there, ← ends) (fields-written s bytes (fieldsThere v (o .arguments)) w slots room x spare j ours))
+      (λ j ours. rw (← there, ← ends) (fields-written s bytes (fieldsThere v (o .arguments)) (row-writable op v o e) slots room x spare j ours))
 
   by-row : (f : Row) → find op ≡ f → Bytes s → readOf v (argumentsKinds op) slots room s (byRow f (λ o. layout v (once (o .arguments) ∷ []))) ≡ ok a → 0 < a .kind
       → Ours s (run (byRow f (λ o. layout v (once (o .arguments) ∷ []))) s 0) → FieldsAgain (byRow f (λ o. layout v (once (o .arguments) ∷ []))) (fieldsBy f op v)

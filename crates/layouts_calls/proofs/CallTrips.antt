@@ -1,7 +1,7 @@
 -- A call that is written reads back: its numbers, counts, strings and payload, whatever follows it. Once over the fields; of the table only that they are writable.
 use Prim.Native.Nat.{ℕ, zero, suc, _+_, _*_, _≤_, _<_}
 use mathlib.Core.Path.{_≡_, refl, sym, _∙_, ap, subst}
-use mathlib.Core.List.{List, [], _∷_, _++_, append-assoc, append-nil, map}
+use mathlib.Core.List.{List, [], _∷_, _++_, append-assoc, append-nil}
 use mathlib.Core.Bool.{Bool, true, false, _&&_, _||_}
 use lib.ListN.{length, getD, take, drop, replicate, length-append, length-drop, take-append-drop}
 use lib.Seq.{length-take-le, ext-getD}
@@ -16,7 +16,7 @@ use Rattle.layouts.specs.Shape.{What, once, Tree, stop, group, groups, layout}
 use Rattle.layouts.specs.Pieces.{Pieces, end, run}
 use Rattle.layouts.specs.Record.{blank}
 use Rattle.layouts.specs.Judge.{judgeOf, entriesOf, payloadOf}
-use Rattle.layouts.specs.Operations.{kindOf, Operation, Row, row, unknown, operations, find}
+use Rattle.layouts.specs.Operations.{kindOf, Operation, Row, row, unknown, find}
 use Rattle.layouts.specs.Grammar.{Says, says-end}
 use Rattle.layouts.specs.Calls.{argumentsTree, byRow, argumentsKinds, answered, readOpArgs}
 use Rattle.layouts.specs.Writers.{slotsOf, viewOf, textsFrom, writing}
@@ -25,11 +25,11 @@ use Rattle.layouts.specs.CallWriter.{fieldsThere, fieldsBy, callFields, valueFo
 use Rattle.layouts.proofs.Exact.{past, complete}
 use Rattle.layouts.proofs.Placed.{never-both}
 use Rattle.layouts.proofs.Lowers.{not-both}
-use Rattle.layouts.proofs.Arguments.{found}
 use Rattle.layouts.proofs.Writers.{onward-ok, pick-ok, writing-told, Told, texts-told}
 use Rattle.layouts.proofs.RoundTrip.{not-refused}
 use Rattle.layouts_calls.specs.CallTrips.{Fifteen, callStrings, NoneLong, callPieces, ReadBack}
-use Rattle.layouts_calls.proofs.CallFields.{fieldsTree, fields-there, Writable, AllWritable, areWritable, all-writable, and-true, fieldPieces, says-field, texts-then, Agrees, strings-in, payload-field, Taken, taken}
+use Rattle.layouts_calls.proofs.Writable.{and-true, Writable, AllWritable, row-writable}
+use Rattle.layouts_calls.proofs.CallFields.{fieldsTree, fields-there, fieldPieces, says-field, texts-then, Agrees, strings-in, payload-field, Taken, taken}
 
 -- ---- how many strings the fields have
 unfoldable pub total : (numbers : List ℕ) → List What → ℕ
@@ -145,10 +145,10 @@ module _ (ns p s : List ℕ) (slots room : ℕ) (small : (j : ℕ) → getD ns j
       let b' = fieldsBytes ns p (drop i cs) ws in
       let split = strings-split i cs g in
       let e' : drop at s ≡ b ++ (b' ++ u) = simp append-assoc at e in
-      let rest = back ws (drop i cs) (at + length b) u (x .2) (simp length-drop (omega arith)) (split .1) (past s at (length b) b (b' ++ u) e' refl) in (
+      let rest = back ws (drop i cs) (at + length b) u (x .1) (simp length-drop (omega arith)) (split .1) (past s at (length b) b (b' ++ u) e' refl) in (
         fieldPieces ns p (take i cs) w at (rest .0),
         subst (λ (ds : List (List ℕ)). Back (w ∷ ws) ds at (b ++ b') (fieldPieces ns p (take i cs) w at (rest .0))) (take-append-drop i cs)
-            (more-back (x .0) ws (x .1) (take i cs) (drop i cs) at b' (b' ++ u) (rest .0) (length-take-le i cs (omega arith)) (split .0) e' (rest .1)),
+            (more-back (x .0 .can) ws (x .0 .once) (take i cs) (drop i cs) at b' (b' ++ u) (rest .0) (length-take-le i cs (omega arith)) (split .0) e' (rest .1)),
       )
 
 -- ---- a list of fields: what is written of it, as it reads
@@ -234,11 +234,6 @@ fields-read ns bytes es p out behind ws cs slots room x f h q l g e =
         }
 
 -- ---- the operations
--- computed of all operations: what their arguments have can be written
-arguments-writable : map (λ (o : Operation). areWritable (o .arguments)) operations ≡ map (λ (o : Operation). true) operations
-unfolding operations hasFrames
-arguments-writable = refl
-
 layout-fields : (v : Version) (o : Operation) → layout v (once (o .arguments) ∷ []) ≡ fieldsTree (fieldsThere v (o .arguments)) (λ u. stop)
 unfolding layout groups group
 layout-fields v o = fields-there v (o .arguments) (λ u. stop)
@@ -246,7 +241,7 @@ layout-fields v o = fields-there v (o .arguments) (λ u. stop)
 module _ (op : ℕ) (v : Version) (ws : List What) (h : callFields op v ≡ ok ws) where
   -- the fields of a call: the tree that reads them, that they can be written, and that the call has a kind
   pub call-known : (argumentsTree op v ≡ fieldsTree ws (λ u. stop)) × AllWritable ws × (0 < kindOf v false (argumentsKinds op))
-  unfolding callFields argumentsTree find
+  unfolding callFields argumentsTree
   call-known = by (find op) refl h
     where
       by : (f : Row) → find op ≡ f → fieldsBy f op v ≡ ok ws
@@ -256,8 +251,7 @@ module _ (op : ℕ) (v : Version) (ws : List What) (h : callFields op v ≡ ok w
           let a = not-refused (eqb k 0) noArguments 0 (ok (fieldsThere v (o .arguments))) ws q in
           let z : fieldsThere v (o .arguments) ≡ ws = let y = a .1 in cc in
           let n = eqb-false k 0 (a .0) in
-          let w = all-writable v (o .arguments) (found _ _ operations op o arguments-writable e .0) in
-          (layout-fields v o ∙ ap (λ (l : List What). fieldsTree l (λ u. stop)) z, subst AllWritable z w, omega arith)
+          (layout-fields v o ∙ ap (λ (l : List What). fieldsTree l (λ u. stop)) z, subst AllWritable z (row-writable op v o e), omega arith)
       by unknown e q = absurd (never-both q)
 
 tree-read : (op : ℕ) (v : Version) (ns p : List ℕ) (cs : List (List ℕ)) (s : List ℕ) (slots room ends : ℕ) → 0 < kindOf v false (argumentsKinds op)
