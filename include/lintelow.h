@@ -120,7 +120,7 @@ uint64_t lintelow_read_daemon_result(uint64_t op, uint16_t major, uint8_t minor,
 uint64_t lintelow_skip_daemon_result(uint64_t op, uint16_t major, uint8_t minor, const uint8_t *s, size_t s_len, uint8_t *block, size_t block_len);
 
 /* The daemon's messages, passed over up to Last or Error, or before the first number that is no message. Kind 0; numbers: how many, with the last one;
- * its code, 0x616c7473 (Last) or 0x63787470 (Error), or 0 for none. Refusals 1, 2, 10. */
+ * its code, 0x616c7473 (Last) or 0x63787470 (Error), or 0 for none: the stream may be cut there. Refusals 1, 2, 10. */
 uint64_t lintelow_read_stderr_loop(const uint8_t *s, size_t s_len, uint8_t *block, size_t block_len);
 
 /* The same, and what follows Error. Entries then: type, name, message; number 2: level. Refusals 1, 2, 3, 4, 10. */

@@ -15,11 +15,8 @@ pub enum Verdict {
 }
 
 impl Verdict {
-    pub const ALL: [Verdict; 5] = [Verdict::Same, Verdict::Refused, Verdict::Short, Verdict::Out, Verdict::Different];
-
-    pub fn name(self) -> &'static str {
-        ["same", "refused", "short", "out", "DIFFERENT"][self as usize]
-    }
+    /// In their order.
+    pub const NAMES: [&str; 5] = ["same", "refused", "short", "out", "DIFFERENT"];
 }
 
 fn takes_slots(call: u64) -> bool {

@@ -1,5 +1,6 @@
 //! What the requests of a seed hardly have: strings and chunks of the limit and of one byte more, with all their bytes there; and long strings in a row,
 //! since one that is as long as the last is passed over in another way.
+use crate::judge::Verdict;
 use crate::lent::Lent;
 use crate::requests::one;
 use crate::tally::Tally;
@@ -20,7 +21,7 @@ fn request(call: u64, length: usize) -> Request {
 }
 
 /// A set of three, cut short: two strings of a length, and a last one.
-fn row(call: u64, length: usize, last: usize, cut: usize) -> Request {
+pub fn row(call: u64, length: usize, last: usize, cut: usize) -> Request {
     let mut a = 3u64.to_le_bytes().to_vec();
     for n in [length, length, last] {
         a.extend((n as u64).to_le_bytes());
@@ -33,7 +34,7 @@ fn row(call: u64, length: usize, last: usize, cut: usize) -> Request {
 /// Is there no difference?
 pub fn run() -> bool {
     let began = Instant::now();
-    let (mut lent, mut tally) = (Lent::new(), Tally::new());
+    let (mut lent, mut tally) = (Lent::new(), Tally::new(&Verdict::NAMES));
     for call in [11, 12, 13, 16, 17] {
         for length in [LIMIT, LIMIT + 1] {
             one(length, &request(call, length), &mut lent, &mut tally);

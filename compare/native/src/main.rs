@@ -4,10 +4,12 @@
 //! E0 or above every STRIDE-th.
 //! `native limit` holds their answers to strings and chunks of the limit and above, and to long strings in a row, against each other.
 //! `native calls SEED COUNT` has calls written by the library, reads them by nix-wire, and holds them against what its writers write.
+//! `native cut SEED THREADS` cuts streams that the library passes at every byte, and adds bytes behind them.
 //! `native answer` reads requests in the probe's form and writes the library's answers in the probe's lines.
 //! Exit status: 0 no difference, 1 a difference, 2 bad usage.
 #![feature(alloc_error_hook)]
 mod calls;
+mod cut;
 mod judge;
 mod lent;
 mod limit;
@@ -40,6 +42,10 @@ fn main() -> ExitCode {
             (Ok(seed), Some(count)) => calls::run(seed, count),
             _ => usage(),
         },
+        ["cut", seed, threads] => match (seed.parse(), number(threads)) {
+            (Ok(seed), Some(threads)) => cut::run(seed, threads),
+            _ => usage(),
+        },
         ["answer"] => lines::run().is_ok(),
         _ => usage(),
     };
@@ -51,6 +57,9 @@ fn main() -> ExitCode {
 }
 
 fn usage() -> ! {
-    eprintln!("usage: native requests SEED COUNT THREADS | native text STRIDE THREADS | native limit | native calls SEED COUNT | native answer");
+    eprintln!(
+        "usage: native requests SEED COUNT THREADS | native text STRIDE THREADS | native limit | native calls SEED COUNT | native cut SEED THREADS | \
+         native answer"
+    );
     std::process::exit(2)
 }

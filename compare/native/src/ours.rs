@@ -72,6 +72,7 @@ fn call<'r>(q: &Request, s: &[u8], at: usize, lent: &'r mut Lent) -> Result<Answ
     ask(Asked { op: q.operation, version, a: &q.a, b: &q.b, s, at }, entries, room)
 }
 
+#[derive(PartialEq)]
 pub struct Success {
     pub kind: u64,
     pub end: usize,
@@ -105,17 +106,21 @@ fn success(q: &Request, at: usize, a: Answer) -> Success {
     Success { kind: a.kind, end: a.end.wrapping_sub(at), end2: a.end2, numbers, counts: a.counts, entries, payload: a.payload.to_vec() }
 }
 
-// Calls that take a place are asked at places from 0 on, with other bytes before it.
-fn place(q: &Request) -> usize {
-    match q.call {
-        9..=18 => q.a.len() % 5,
-        _ => 0,
-    }
+/// Calls that take a place are asked at places from 0 on, with other bytes before it.
+pub const PLACES: usize = 5;
+
+pub fn takes_place(call: u64) -> bool {
+    matches!(call, 9..=18)
 }
 
 pub fn ask(q: &Request, lent: &mut Lent) -> Said {
-    let at = place(q);
-    let moved = [&[0xee; 5][..at], &q.a].concat();
+    let at = if takes_place(q.call) { q.a.len() % PLACES } else { 0 };
+    ask_at(q, at, at, lent)
+}
+
+/// At a place, with so many bytes before the stream: fewer than the place where it is cut below that.
+pub fn ask_at(q: &Request, at: usize, before: usize, lent: &mut Lent) -> Said {
+    let moved = [&[0xee; PLACES][..before], &q.a].concat();
     lent.fill(q.slots, q.room);
     let (answer, entries, payload) = match call(q, &moved, at, lent) {
         Ok(a) => {

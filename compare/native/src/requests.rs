@@ -15,8 +15,7 @@ const BATCH: usize = 256;
 
 type Numbered = (usize, Request);
 
-fn work(next: &Mutex<impl Iterator<Item = Numbered>>) -> Tally {
-    let mut tally = Tally::new();
+fn work(next: &Mutex<impl Iterator<Item = Numbered>>, mut tally: Tally, one: impl Fn(usize, Request, &mut Lent, &mut Tally)) -> Tally {
     let mut lent = Lent::new();
     loop {
         let batch: Vec<Numbered> = {
@@ -27,7 +26,7 @@ fn work(next: &Mutex<impl Iterator<Item = Numbered>>) -> Tally {
             return tally;
         }
         for (index, q) in batch {
-            one(index, &q, &mut lent, &mut tally);
+            one(index, q, &mut lent, &mut tally);
         }
     }
 }
@@ -36,23 +35,35 @@ pub fn one(index: usize, q: &Request, lent: &mut Lent, tally: &mut Tally) {
     let rust = answer(q);
     let ours = ask(q, lent);
     let verdict = judge(q, &rust, &ours);
-    tally.count(q.call, verdict);
+    tally.count(q.call, verdict as usize);
     if verdict == Verdict::Different {
         tally.differs(index, q, rust.to_string(), ours.to_string());
     }
 }
 
-/// Is there no difference?
-pub fn run(seed: u64, count: usize, threads: usize) -> bool {
-    let began = Instant::now();
-    let next = Mutex::new(generate::requests(seed).take(count).enumerate());
-    let mut tally = Tally::new();
+/// Each request by one of the threads.
+pub fn by_threads(
+    threads: usize,
+    requests: impl Iterator<Item = Request> + Send,
+    columns: &'static [&'static str],
+    one: impl Fn(usize, Request, &mut Lent, &mut Tally) + Sync,
+) -> Tally {
+    let next = Mutex::new(requests.enumerate());
+    let mut tally = Tally::new(columns);
     thread::scope(|s| {
-        let workers: Vec<_> = (0..threads).map(|_| s.spawn(|| work(&next))).collect();
+        let workers: Vec<_> = (0..threads).map(|_| s.spawn(|| work(&next, Tally::new(columns), &one))).collect();
         for worker in workers {
             tally.add(worker.join().expect("a thread ends with its counts"));
         }
     });
+    tally
+}
+
+/// Is there no difference?
+pub fn run(seed: u64, count: usize, threads: usize) -> bool {
+    let began = Instant::now();
+    let requests = generate::requests(seed).take(count);
+    let tally = by_threads(threads, requests, &Verdict::NAMES, |index, q, lent, tally| one(index, &q, lent, tally));
     tally.print();
     tally.conclude(&format!("of seed {seed}"), began)
 }

@@ -1,5 +1,4 @@
 //! Counts by call and verdict, and the smallest request that differs.
-use crate::judge::Verdict;
 use crate::ours::calls;
 use oracle::request::Request;
 use std::time::Instant;
@@ -20,7 +19,9 @@ impl Difference {
 }
 
 pub struct Tally {
-    counts: Vec<[u64; 5]>,
+    /// The verdicts. The last is that of a difference.
+    columns: &'static [&'static str],
+    counts: Vec<Vec<u64>>,
     smallest: Option<Difference>,
 }
 
@@ -44,12 +45,12 @@ fn row(call: u64) -> usize {
 }
 
 impl Tally {
-    pub fn new() -> Tally {
-        Tally { counts: vec![[0; 5]; calls().count()], smallest: None }
+    pub fn new(columns: &'static [&'static str]) -> Tally {
+        Tally { columns, counts: vec![vec![0; columns.len()]; calls().count()], smallest: None }
     }
 
-    pub fn count(&mut self, call: u64, verdict: Verdict) {
-        self.counts[row(call)][verdict as usize] += 1;
+    pub fn count(&mut self, call: u64, column: usize) {
+        self.counts[row(call)][column] += 1;
     }
 
     pub fn differs(&mut self, index: usize, q: &Request, rust: String, ours: String) {
@@ -78,31 +79,32 @@ impl Tally {
         other.smallest.into_iter().for_each(|d| self.keep(d));
     }
 
-    fn total(&self, verdict: Verdict) -> u64 {
-        self.counts.iter().map(|c| c[verdict as usize]).sum()
+    fn totals(&self) -> Vec<u64> {
+        (0..self.columns.len()).map(|column| self.counts.iter().map(|c| c[column]).sum()).collect()
     }
 
     fn differences(&self) -> u64 {
-        self.total(Verdict::Different)
+        self.totals()[self.columns.len() - 1]
     }
 
     /// The last line: is there no difference?
     pub fn conclude(&self, which: &str, began: Instant) -> bool {
-        let all: u64 = Verdict::ALL.iter().map(|&v| self.total(v)).sum();
+        let all: u64 = self.totals().iter().sum();
         println!("\nnative: {all} requests {which}, {} differences, {:.1} s", self.differences(), began.elapsed().as_secs_f64());
         self.differences() == 0
     }
 
     pub fn print(&self) {
-        let line = |name: &str, words: [String; 5]| {
-            let cells: String = words.iter().map(|w| format!("{w:>11}")).collect();
+        let head: String = self.columns.iter().map(|name| format!("{name:>11}")).collect();
+        println!("{:<30}{head}", "call");
+        let line = |name: &str, counts: &[u64]| {
+            let cells: String = counts.iter().map(|n| format!("{n:>11}")).collect();
             println!("{name:<30}{cells}");
         };
-        line("call", Verdict::ALL.map(|v| v.name().to_string()));
         for ((call, name), counts) in calls().zip(&self.counts).filter(|(_, counts)| counts.iter().any(|&n| n > 0)) {
-            line(&format!("{call:>2} {name}"), counts.map(|n| n.to_string()));
+            line(&format!("{call:>2} {name}"), counts);
         }
-        line("all", Verdict::ALL.map(|v| self.total(v).to_string()));
+        line("all", &self.totals());
         if let Some(d) = &self.smallest {
             println!("\nthe smallest of {} that differ, {}:\n{}\nrust: {}\nours: {}", self.differences(), d.which, d.hex, d.rust, d.ours);
         }

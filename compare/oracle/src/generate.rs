@@ -12,6 +12,11 @@ pub fn requests(seed: u64) -> impl Iterator<Item = Request> {
     first.into_iter().chain(std::iter::repeat_with(move || any(&mut dice)))
 }
 
+/// Streams to be passed whole.
+pub fn whole(seed: u64) -> Vec<Request> {
+    tables::whole(&mut Dice::new(seed))
+}
+
 fn any(dice: &mut Dice) -> Request {
     match dice.below(100) {
         0..=54 => with_stream(dice, 1, 4),

@@ -12,7 +12,7 @@ pub mod answer;
 pub mod calls;
 mod conversation;
 mod damage;
-mod dice;
+pub mod dice;
 pub mod generate;
 mod layouts;
 pub mod line;

@@ -22,15 +22,19 @@ pub fn fill(s: &mut Stream, call: u64, op: u64, v: Version) {
     }
 }
 
-fn operations(dice: &mut Dice) -> Vec<Request> {
+/// Nothing damaged, and room for what a reader keeps.
+fn undamaged(mut s: Stream, call: u64, operation: u64, (major, minor): Version) -> Request {
+    fill(&mut s, call, operation, (major, minor));
+    let (slots, room) = (s.kept as u64, s.payload as u64);
+    Request { call, operation, major, minor, slots, room, a: s.bytes, b: vec![] }
+}
+
+fn operations(dice: &mut Dice, is_tidy: bool) -> Vec<Request> {
     let mut all = Vec::new();
     for call in 1..=4 {
         for op in layouts::OPERATIONS {
-            for (major, minor) in layouts::versions() {
-                let mut s = Stream::new(dice, true);
-                fill(&mut s, call, op, (major, minor));
-                let (slots, room) = (s.kept as u64, s.payload as u64);
-                all.push(Request { call, operation: op, major, minor, slots, room, a: s.bytes, b: vec![] });
+            for v in layouts::versions() {
+                all.push(undamaged(Stream::new(dice, is_tidy), call, op, v));
             }
         }
     }
@@ -156,10 +160,28 @@ fn texts(_: &mut Dice) -> Vec<Request> {
 }
 
 pub fn requests(dice: &mut Dice) -> Vec<Request> {
-    let mut all = operations(dice);
+    let mut all = operations(dice, true);
     all.extend(handshakes(dice));
     all.extend(bad_texts(dice));
     all.extend(lengths(dice));
     all.extend(texts(dice));
+    all
+}
+
+// How many streams of one field there are for each call.
+const FIELDS: usize = 200;
+
+/// Streams to be passed: of each operation at each version, of each pair of versions, and of one field. Half of them are untidy, and may be refused by a call
+/// that looks at text.
+pub fn whole(dice: &mut Dice) -> Vec<Request> {
+    let mut all = handshakes(dice);
+    for call in 9..=17 {
+        for i in 0..FIELDS {
+            all.push(undamaged(Stream::new(dice, i % 2 == 0), call, 0, (0, 0)));
+        }
+    }
+    for is_tidy in [true, false, true, false] {
+        all.extend(operations(dice, is_tidy));
+    }
     all
 }

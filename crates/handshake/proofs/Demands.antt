@@ -28,6 +28,7 @@ use Rattle.walk_judge.specs.declared.Answer.{Answer}
 use Rattle.walk_judge.specs.declared.Outcome.the-variants.{Fine, Refused}
 use Rattle.walk_judge.specs.Judged.{answerAs}
 use Rattle.walk_judge.proofs.Answers.{answer-fine, refused-keeps, fine-reports, beyond}
+use Rattle.walk_judge.proofs.Cut.{saidBy}
 use Rattle.handshake.proofs.Room.{handshake-counted, daemon-counted}
 use Rattle.handshake.proofs.parse_handshake.Reads as parse-handshake
 use Rattle.handshake.proofs.parse_handshake.Kinds as parse-handshake-kinds
@@ -35,17 +36,17 @@ use Rattle.handshake.proofs.parse_daemon_handshake.Reads as parse-daemo
 use Rattle.handshake.proofs.parse_daemon_handshake.Kinds as parse-daemon-handshake-kinds
 
 -- ---- the arguments of `parse_handshake`, by name: both streams, and the room that is lent for entries; that room at exit
-abbrev Streams : Type 0 → Type 0
+abbrev pub Streams : Type 0 → Type 0
 Streams A = RefT (List ℕ) × (RefT (List ℕ) × A)
 
 module _ {A : Type 0} where
-  abbrev clientOf : Streams A → List ℕ
+  abbrev pub clientOf : Streams A → List ℕ
   clientOf a = now (a .0)
 
-  abbrev daemonOf : Streams A → List ℕ
+  abbrev pub daemonOf : Streams A → List ℕ
   daemonOf a = now (a .1 .0)
 
-  abbrev entriesAt : Streams (RefT (List ℕ) × A) → List ℕ
+  abbrev pub entriesAt : Streams (RefT (List ℕ) × A) → List ℕ
   entriesAt a = now (a .1 .1 .0)
 
   -- what is heard on both streams
@@ -53,33 +54,29 @@ module _ {A : Type 0} where
   heardIn a = hear handshake (clientOf a) (daemonOf a) 0 0 blank
 
 module _ {A B C : Type 0} where
-  abbrev entriesAfter : A × (B × (RefT (List ℕ) × C)) → List ℕ
+  abbrev pub entriesAfter : A × (B × (RefT (List ℕ) × C)) → List ℕ
   entriesAfter x = now (x .1 .1 .0)
 
 -- ---- those of `parse_daemon_handshake`: the client's version, the daemon's stream, the room
-abbrev Alone : Type 0 → Type 0
+abbrev pub Alone : Type 0 → Type 0
 Alone A = ℕ × (ℕ × (RefT (List ℕ) × A))
 
 module _ {A : Type 0} where
-  abbrev versionOf : Alone A → Version
+  abbrev pub versionOf : Alone A → Version
   versionOf a = version (a .0) (a .1 .0)
 
-  abbrev streamOf : Alone A → List ℕ
+  abbrev pub streamOf : Alone A → List ℕ
   streamOf a = now (a .1 .1 .0)
 
-  abbrev roomAt : Alone (RefT (List ℕ) × A) → List ℕ
+  abbrev pub roomAt : Alone (RefT (List ℕ) × A) → List ℕ
   roomAt a = now (a .1 .1 .1 .0)
 
   abbrev aloneIn : Alone A → Heard
   aloneIn a = hear (daemonHandshake (versionOf a)) [] (streamOf a) 0 0 blank
 
 module _ {A B C D : Type 0} where
-  abbrev roomAfter : A × (B × (C × (RefT (List ℕ) × D))) → List ℕ
+  abbrev pub roomAfter : A × (B × (C × (RefT (List ℕ) × D))) → List ℕ
   roomAfter x = now (x .1 .1 .1 .0)
-
--- what was said where all was fine
-abbrev saidBy : Answer → L.Answer
-saidBy r = record { kind = r .kind; ends = r .ends; ends2 = r .ends2; found = r .found }
 
 -- ---- an answer is what both streams mean, up to where they are passed
 abbrev endsIn : Result L.Answer → ℕ

@@ -1,4 +1,4 @@
--- `Unique` and `Demands` are what docs/PROOFS.md cites; the others serve the functions' proofs.
+-- `Unique`, `Demands` and `Cut` are what docs/PROOFS.md cites; the others serve the functions' proofs.
 pub mod Ways
 pub mod Quiet
 pub mod Left
@@ -7,3 +7,4 @@ pub mod Room
 pub mod Filled
 pub mod Unique
 pub mod Demands
+pub mod Cut

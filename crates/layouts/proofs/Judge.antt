@@ -65,7 +65,7 @@ text-step s slots r m start len = by (notText s m start len) (isKept m) (leb slo
     by false true false e f = goes-on e (λ h. omega (arith, leb-false slots (r .entries) f))
     by false false d e f = goes-on e (λ h. omega arith)
 
-chunk-step : (room : ℕ) (r : Record) (start len : ℕ)
+pub chunk-step : (room : ℕ) (r : Record) (start len : ℕ)
     → Step false (room < r .payload + len) (r .payload + len ≤ room) start (withPayload r (r .payload + len)) (chunkTaken room r start len)
 unfolding chunkTaken
 chunk-step room r start len = by (leb (r .payload + len) room) refl

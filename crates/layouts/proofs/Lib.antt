@@ -9,6 +9,8 @@ pub mod Trees
 pub mod Soft
 pub mod Judge
 pub mod Theorems
+pub mod Follow
+pub mod Cut
 pub mod Calls
 pub mod Lowers
 pub mod Arguments
@@ -17,6 +19,7 @@ pub mod RoundTrip
 pub mod Success
 pub mod Stderr
 pub mod Talk
+pub mod CutTalk
 pub mod Faults
 pub mod Outcomes
 pub mod Turns

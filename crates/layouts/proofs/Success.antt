@@ -1,26 +1,27 @@
--- 0 is success: no refusal of a string, of a set or of a call that is written has that number. And a string that is passed lies in its stream.
+-- 0 is success: no refusal has that number, of a writer, a reader or a skipper. And a string that is passed lies in its stream.
 use Prim.Native.Nat.{ℕ, zero, suc, _+_, _-_, _≤_, _<_}
 use mathlib.Core.Path.{_≡_}
 use mathlib.Core.List.{List, [], _∷_}
-use mathlib.Core.Bool.{Bool, true, false, not, _&&_}
+use mathlib.Core.Bool.{Bool, true, false, _&&_}
 use lib.ListN.{length, take, drop}
 use lib.Dec.{leb, ltb, eqb}
 use native.Mathlib.Omega.{arith}
 use Rattle.text.specs.Prefix.{isText}
 use Rattle.text.specs.Rfc3629.{Text}
 use Rattle.layouts.specs.declared.Record.{Record}
-use Rattle.layouts.specs.Primitive.{pick, numberAt, padOf, cutShort, badText, noEntryRoom, noPayloadRoom, outputFull, noSuchEntry, badEntry, noArguments, notOfShape, Version, Result, ok, refused, onward}
-use Rattle.layouts.specs.Shape.{What, Role, kept, asCount, str, set, units, strings, layout, stop}
+use Rattle.layouts.specs.Primitive.{pick, numberAt, padOf, cutShort, badText, noEntryRoom, noPayloadRoom, outputFull, noSuchEntry, badEntry, noArguments, notOfShape, Version, version, Result, ok, refused, onward}
+use Rattle.layouts.specs.Shape.{Target, What, Role, str, framed, always, once, Tree, ask, say, frames, fail, stop, layout}
 use Rattle.layouts.specs.Pieces as P
-use Rattle.layouts.specs.Pieces.{Pieces, number, text, half, chunk, end, fault, run, afterNum, afterText, skipOf}
-use Rattle.layouts.specs.Record.{noted, isKept, entered, withPayload}
+use Rattle.layouts.specs.Pieces.{Pieces, number, text, half, chunk, end, fault, run, afterNum, afterText, afterChunk, chunks, skipOf}
+use Rattle.layouts.specs.Record.{blank, noted, isKept, entered, withPayload}
 use Rattle.layouts.specs.Judge.{notText, textTaken, halfTaken, chunkTaken, judgeOf}
-use Rattle.layouts.specs.Operations.{kindOf, Row, row, unknown, find}
-use Rattle.layouts.specs.Calls.{argumentsKinds, field, readString, readStringSet}
+use Rattle.layouts.specs.Operations.{Kinds, kindOf, Operation, Row, row, unknown, find}
+use Rattle.layouts.specs.Calls.{byRow, argumentsTree, skippedTree, replyTree, argumentsKinds, skippedKinds, replyKinds, answered, readOf, readOpArgs, readDaemonResult, skipDaemonResult, skipOpArgs, field, readField, readU32, skipFramed}
 use Rattle.layouts.specs.Writers.{slotsOf, entryStart, entryLength, viewOf, stringBytes, setBytes, writing, writeString, textAt, textsFrom, textsOf, writeStringSet}
 use Rattle.layouts.specs.CallWriter.{fieldsThere, fieldsBy, callFields, valueFor, targetIn, isOfShape, stringsIn, entriesFor, fieldsBytes, stringsOf, shapeBytes, callBytes, writeOpArgs}
-use Rattle.layouts.proofs.Placed.{never-both}
-use Rattle.layouts.proofs.Views.{NumView, is-value, is-short, TextView, no-length, too-long, no-contents, no-padding, is-whole, num-view, text-view}
+use Rattle.layouts.proofs.Placed.{never-both, NoFail}
+use Rattle.layouts.proofs.Trees.{layout-never-fails}
+use Rattle.layouts.proofs.Views.{NumView, is-value, is-short, TextView, no-length, too-long, no-contents, no-padding, is-whole, ChunkView, no-size, is-last, too-large, no-bytes, is-part, num-view, text-view, chunk-view}
 
 -- if it is a refusal, its number is not 0
 abbrev pub Numbered : {A : Type 0} → Result A → Type 0
@@ -100,7 +101,7 @@ module _ (bytes es : List ℕ) where
 
 -- the readers
 module _ (s : List ℕ) where
-  judge-numbered : (slots room : ℕ) (r : Record) (p : Pieces) → Numbered (skipOf p) → Numbered (judgeOf s slots room r p)
+  pub judge-numbered : (slots room : ℕ) (r : Record) (p : Pieces) → Numbered (skipOf p) → Numbered (judgeOf s slots room r p)
   unfolding judgeOf skipOf textTaken halfTaken chunkTaken
   judge-numbered slots room r (number i place n p) h = judge-numbered slots room (noted r i n) p h
   judge-numbered slots room r (text m start len p) h =
@@ -116,6 +117,7 @@ module _ (s : List ℕ) where
   judge-numbered slots room r (end place) h = tt
   judge-numbered slots room r (fault which place) h = h
 
+  -- of a tree that never fails of itself
   say-numbered : (m : Role) (at : ℕ) (k : ℕ → Pieces) {t : P.Text} → TextView (length s) (numberAt s at) at t → ((a : ℕ) → Numbered (skipOf (k a))) → Numbered (skipOf (afterText t m k))
   unfolding afterText skipOf
   say-numbered m at k (no-length h) g = omega arith
@@ -124,28 +126,75 @@ module _ (s : List ℕ) where
   say-numbered m at k (no-padding h l c) g = omega arith
   say-numbered m at k (is-whole h l) g = g (at + 8 + numberAt s at + padOf (numberAt s at))
 
-  units-numbered : (n at : ℕ) → Numbered (skipOf (run (units kept 0 n (λ u. stop)) s at))
-  unfolding units strings run skipOf
-  units-numbered zero at = tt
-  units-numbered (suc n) at = say-numbered kept at (λ a. run (units kept 0 n (λ u. stop)) s a) (text-view (length s) (numberAt s at) at) (λ a. units-numbered n a)
-
-  ask-numbered : (at : ℕ) (k : ℕ → Pieces) {t : P.Num} → NumView (length s) (numberAt s at) at t → ((n : ℕ) → Numbered (skipOf (k n))) → Numbered (skipOf (afterNum t (asCount 0) at k))
+  ask-numbered : (i : Target) (at : ℕ) (k : ℕ → Pieces) {t : P.Num} → NumView (length s) (numberAt s at) at t → ((n : ℕ) → Numbered (skipOf (k n))) → Numbered (skipOf (afterNum t i at k))
   unfolding afterNum skipOf
-  ask-numbered at k (is-value h) g = g (numberAt s at)
-  ask-numbered at k (is-short h) g = omega arith
+  ask-numbered i at k (is-value h) g = g (numberAt s at)
+  ask-numbered i at k (is-short h) g = omega arith
 
-  pub skip-numbered : (m : Role) (at : ℕ) → Numbered (skipOf (run (field (str m)) s at))
-  unfolding layout run skipOf
-  skip-numbered m at = say-numbered m at (λ a. end a) (text-view (length s) (numberAt s at) at) (λ a. tt)
+  chunk-numbered : (at : ℕ) (again k : ℕ → Pieces) {t : P.Chunk} → ChunkView (length s) (numberAt s at) at t → ((a : ℕ) → Numbered (skipOf (again a)))
+      → ((a : ℕ) → Numbered (skipOf (k a))) → Numbered (skipOf (afterChunk t again k))
+  unfolding afterChunk skipOf
+  chunk-numbered at again k (no-size h) f g = omega arith
+  chunk-numbered at again k (is-last h z) f g = g (at + 8)
+  chunk-numbered at again k (too-large h l) f g = omega arith
+  chunk-numbered at again k (no-bytes h z l c) f g = omega arith
+  chunk-numbered at again k (is-part h z l) f g = f (at + 8 + numberAt s at)
 
-  pub read-numbered : (at : ℕ) → Numbered (readString s at)
-  read-numbered at = judge-numbered 1 0 _ (run (field (str kept)) s at) (skip-numbered kept at)
+  chunks-numbered : (f at : ℕ) (k : ℕ → Pieces) → ((a : ℕ) → Numbered (skipOf (k a))) → Numbered (skipOf (chunks f s at k))
+  unfolding chunks skipOf
+  chunks-numbered zero at k g = omega arith
+  chunks-numbered (suc f) at k g = chunk-numbered at (λ a. chunks f s a k) k (chunk-view (length s) (numberAt s at) at) (λ a. chunks-numbered f a k g) g
 
-  pub read-set-numbered : (at slots : ℕ) → Numbered (readStringSet s at slots)
-  unfolding layout run
-  read-set-numbered at slots =
-      judge-numbered slots 0 _ (run (field (set kept (asCount 0))) s at)
-      (ask-numbered at (λ n. run (units kept 0 n (λ u. stop)) s (at + 8)) (num-view (length s) (numberAt s at) at) (λ n. units-numbered n (at + 8)))
+  pub run-numbered : (t : Tree) (at : ℕ) → NoFail t → Numbered (skipOf (run t s at))
+  unfolding run skipOf
+  run-numbered (ask i k) at f = ask-numbered i at (λ n. run (k n) s (at + 8)) (num-view (length s) (numberAt s at) at) (λ n. run-numbered (k n) (at + 8) (f n))
+  run-numbered (say m k) at f = say-numbered m at (λ a. run (k tt) s a) (text-view (length s) (numberAt s at) at) (λ a. run-numbered (k tt) a f)
+  run-numbered (frames k) at f = chunks-numbered (suc (length s)) at (λ a. run (k tt) s a) (λ a. run-numbered (k tt) a f)
+  run-numbered (fail which place) at f = absurd f
+  run-numbered stop at f = tt
+
+  -- of a layout by operation
+  row-numbered : (f : Row) (k : Operation → Tree) → ((o : Operation) → NoFail (k o)) → Numbered (skipOf (run (byRow f k) s 0))
+  unfolding run skipOf
+  row-numbered (row o) k f = run-numbered (k o) 0 (f o)
+  row-numbered unknown k f = omega arith
+
+  read-of : (v : Version) (k : Kinds) (slots room : ℕ) (t : Tree) → Numbered (skipOf (run t s 0)) → Numbered (readOf v k slots room s t)
+  read-of v k slots room t h = onward-numbered (judgeOf s slots room blank (run t s 0)) (λ e. answered v k (ok e)) (judge-numbered slots room blank (run t s 0) h) (λ e. tt)
+
+  module _ (op : ℕ) (v : Version) where
+    pub skip-reply-numbered : Numbered (skipDaemonResult op v s)
+    unfolding skipDaemonResult replyTree
+    skip-reply-numbered = row-numbered (find op) (λ o. layout v (o .reply)) (λ o. layout-never-fails v (o .reply))
+
+    pub read-reply-numbered : (slots room : ℕ) → Numbered (readDaemonResult op v s slots room)
+    unfolding readDaemonResult skipDaemonResult
+    read-reply-numbered slots room = read-of v (replyKinds op) slots room (replyTree op v) skip-reply-numbered
+
+    pub read-arguments-numbered : (slots room : ℕ) → Numbered (readOpArgs op v s slots room)
+    unfolding readOpArgs argumentsTree
+    read-arguments-numbered slots room =
+        read-of v (argumentsKinds op) slots room (argumentsTree op v)
+        (row-numbered (find op) (λ o. layout v (once (o .arguments) ∷ [])) (λ o. layout-never-fails v (once (o .arguments) ∷ [])))
+
+    pub skip-arguments-numbered : Numbered (skipOpArgs op v s)
+    unfolding skipOpArgs skippedTree
+    skip-arguments-numbered =
+        read-of v (skippedKinds op) 1 0 (skippedTree op v) (row-numbered (find op) (λ o. layout v (once (o .skips) ∷ [])) (λ o. layout-never-fails v (once (o .skips) ∷ [])))
+
+  -- of one field
+  module _ (at : ℕ) where
+    pub skip-field-numbered : (w : What) → Numbered (skipOf (run (field w) s at))
+    skip-field-numbered w = run-numbered (field w) at (layout-never-fails (version 0 0) (once (always w ∷ []) ∷ []))
+
+    pub read-field-numbered : (w : What) (slots room : ℕ) → Numbered (readField w s at slots room)
+    read-field-numbered w slots room = judge-numbered slots room blank (run (field w) s at) (skip-field-numbered w)
+
+    pub skip-framed-numbered : Numbered (skipFramed s at)
+    skip-framed-numbered = onward-numbered (skipOf (run (field framed) s at)) _ (skip-field-numbered framed) (λ e. tt)
+
+    pub read-u32-numbered : Numbered (readU32 s at)
+    read-u32-numbered = pick-numbered (leb (at + 4) (length s)) (ok _) (refused cutShort at 0) tt (omega arith)
 
   -- a string that is passed lies in the stream
   pub string-within : (m : Role) (at e : ℕ) → skipOf (run (field (str m)) s at) ≡ ok e → (at + 8 + numberAt s at ≤ e) × (e ≤ length s)

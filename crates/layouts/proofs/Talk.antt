@@ -1,27 +1,29 @@
 -- Handshakes: numbers alone decide what is heard on both streams, and what follows on each is as before.
 use Prim.Native.Nat.{ℕ, _+_, _≤_, _<_}
 use mathlib.Core.Path.{_≡_, refl, sym, _∙_, ap}
-use mathlib.Core.List.{List, []}
+use mathlib.Core.List.{List, [], _∷_}
 use mathlib.Core.Bool.{Bool, true, false, _||_}
 use lib.ListN.{length, getD, drop}
 use lib.Dec.{eqb}
 use native.Mathlib.Omega.{arith}
 use native.Mathlib.Nat.{zero-add}
 use Rattle.layouts.specs.declared.Record.{Record}
-use Rattle.layouts.specs.Primitive.{pick, Version, version, fromWire, Result, ok, refused, onward}
-use Rattle.layouts.specs.Shape.{Tree}
+use Rattle.layouts.specs.Primitive.{pick, Version, version, fromWire, clientMagicWrong, daemonMagicWrong, notLast, Result, ok, refused, onward}
+use Rattle.layouts.specs.Shape.{Tree, Gated, once}
 use Rattle.layouts.specs.Pieces.{Pieces, number, text, half, chunk, end, fault, run, skipOf, totalOf}
 use Rattle.layouts.specs.Record.{blank, recordOf}
-use Rattle.layouts.specs.Judge.{notText, Ended}
+use Rattle.layouts.specs.Judge.{notText, Ended, judgeOf}
 use Rattle.layouts.specs.Handshake.{Talk, turn, lost, over, Heard, heard, failed, ended, ifEnds, hear, Both, onStream, judgeHeard, clientMagic, daemonMagic, numberIn, fieldsAt, hello, featureFields, obsoleteFields, infoFields, daemonInfo, daemonGreeting, greeting, handshake, daemonHandshake, handshakeAnswer, parseHandshake, parseDaemonHandshake}
+use Rattle.layouts.specs.Operations.{N}
 use Rattle.layouts.specs.Stderr.{Last}
 use Rattle.layouts.specs.Soft.{soft, softHeard, SoftenedOn, orBad, unlessBad, skipHeard, recordHeard, keptHeard, orOn, unlessHeard}
 use Rattle.layouts.specs.Demands.{Verdict, all-text, first-bad, in-turn, after-turn, VerdictHeard, all-heard, first-heard, bothMean, handshakeMeaning, daemonMeaning}
-use Rattle.layouts.proofs.Trees.{no-payload}
-use Rattle.layouts.proofs.Placed.{never-both, run-placed, ends, soft-low, soft-high, neither}
+use Rattle.layouts.proofs.Trees.{AllFit, no-payload, layout-never-fails}
+use Rattle.layouts.proofs.Placed.{never-both, NoFail, run-placed, ends, soft-low, soft-high, neither}
 use Rattle.layouts.proofs.Soft.{Before, soft-run-at, same-drop}
 use Rattle.layouts.proofs.Judge.{record-room, judge-room}
 use Rattle.layouts.proofs.Theorems.{unless-bad}
+use Rattle.layouts.proofs.Success.{Numbered, onward-numbered, judge-numbered, run-numbered}
 
 -- of what follows a turn
 rest-soft : (d c : Bool) (x : ℕ) (o : Result ℕ) (k : ℕ → Heard) → ((e : ℕ) → o ≡ ok e → softHeard d (k e) x ≡ false) → softHeard d (ifEnds c o k) x ≡ false
@@ -234,23 +236,54 @@ heard-room s u slots r (failed which place stream) x q l m = absurd (never-both 
 heard-room s u slots r (ended a b) x q l m =
     let z : record { found = blank; clientEnds = a; daemonEnds = b } ≡ x = cc in ap (λ (y : Both). ok (withFound r y)) z
 
--- ---- no turn of a handshake has a payload
-data NoPayload : Talk → Type 0 where
-  at-turn : {d : Bool} {t : Tree} {k : Record → ℕ → Talk} → ((s : List ℕ) (at : ℕ) → totalOf (run t s at) ≡ 0) → ((r : Record) (e : ℕ) → NoPayload (k r e))
-      → NoPayload (turn d t k)
-  at-lost : {which place stream : ℕ} → NoPayload (lost which place stream)
-  at-over : NoPayload over
+-- ---- the tree of every turn is such, and what the talk itself refuses has a number
+pub data EachTurn (P : Tree → Type 0) : Talk → Type 0 where
+  at-turn : {d : Bool} {t : Tree} {k : Record → ℕ → Talk} → P t → ((r : Record) (e : ℕ) → EachTurn P (k r e)) → EachTurn P (turn d t k)
+  at-lost : {which place stream : ℕ} → 0 < which → EachTurn P (lost which place stream)
+  at-over : EachTurn P over
 
-either : (b : Bool) {x y : Talk} → NoPayload x → NoPayload y → NoPayload (pick b x y)
-either true f g = f
-either false f g = g
+-- so it is of both handshakes, which have no framed data
+module _ (P : Tree → Type 0) (f : (v : Version) (is : List Gated) → AllFit ⊥ is → P (fieldsAt v is)) where
+  either : (b : Bool) {x y : Talk} → EachTurn P x → EachTurn P y → EachTurn P (pick b x y)
+  either true g h = g
+  either false g h = h
+
+  hello-fits : (magic wire : ℕ) → P (hello magic wire)
+  hello-fits magic wire = f (version 0 0) (N magic ∷ N wire ∷ []) (tt, (tt, tt))
+
+  info-turns : (v : Version) → EachTurn P (daemonInfo v)
+  unfolding daemonInfo
+  info-turns v = at-turn (f v infoFields (tt, (tt, (tt, tt)))) (λ r e. either (eqb (numberIn r 5) Last) at-over (at-lost {which = notLast} (omega arith)))
+
+  pub handshake-turns : EachTurn P handshake
+  unfolding handshake greeting
+  handshake-turns =
+      at-turn (hello-fits 0 1) λ r e.
+      at-turn (hello-fits 2 3) λ r e.
+      either (eqb (numberIn r 0) clientMagic)
+      (either (eqb (numberIn r 2) daemonMagic)
+      (at-turn (f _ (featureFields 0) (tt, tt)) λ r e.
+      at-turn (f _ (featureFields 1) (tt, tt)) λ r e.
+      at-turn (f _ obsoleteFields (tt, (tt, tt))) λ r e. info-turns _)
+      (at-lost {which = daemonMagicWrong} (omega arith)))
+      (at-lost {which = clientMagicWrong} (omega arith))
+
+  pub daemon-turns : (c : Version) → EachTurn P (daemonHandshake c)
+  unfolding daemonHandshake daemonGreeting
+  daemon-turns c =
+      at-turn (hello-fits 2 3) λ r e.
+      either (eqb (numberIn r 2) daemonMagic) (at-turn (f _ (featureFields 1) (tt, tt)) λ r e. info-turns _) (at-lost {which = daemonMagicWrong} (omega arith))
+
+-- ---- no turn of a handshake has a payload
+abbrev NoPayload : Tree → Type 0
+NoPayload t = (s : List ℕ) (at : ℕ) → totalOf (run t s at) ≡ 0
 
 rest-payload : (c : Bool) (o : Result ℕ) (k : ℕ → Heard) → ((e : ℕ) → totalHeard (k e) ≡ 0) → totalHeard (ifEnds c o k) ≡ 0
 unfolding totalHeard
 rest-payload c (ok e) k f = f e
 rest-payload c (refused which place stream) k f = refl
 
-hear-payload : {x : Talk} → NoPayload x → (s u : List ℕ) (a b : ℕ) (r : Record) → totalHeard (hear x s u a b r) ≡ 0
+hear-payload : {x : Talk} → EachTurn NoPayload x → (s u : List ℕ) (a b : ℕ) (r : Record) → totalHeard (hear x s u a b r) ≡ 0
 unfolding hear totalHeard
 hear-payload (at-turn {d = false} {t} {k} f g) s u a b r =
     let q = recordOf r (run t s a) in
@@ -258,37 +291,45 @@ hear-payload (at-turn {d = false} {t} {k} f g) s u a b r =
 hear-payload (at-turn {d = true} {t} {k} f g) s u a b r =
     let q = recordOf r (run t u b) in
     simp (f u b, zero-add) (rest-payload true (skipOf (run t u b)) (λ e. hear (k q e) s u a e q) (λ e. hear-payload (g q e) s u a e q))
-hear-payload at-lost s u a b r = refl
+hear-payload (at-lost h) s u a b r = refl
 hear-payload at-over s u a b r = refl
 
-info-payload : (v : Version) → NoPayload (daemonInfo v)
-unfolding daemonInfo
-info-payload v = at-turn (no-payload v infoFields (tt, (tt, (tt, tt)))) (λ r e. either (eqb (numberIn r 5) Last) at-over at-lost)
+-- ---- no refusal of a handshake has number 0
+on-stream-numbered : {A : Type 0} (d : Bool) (o : Result A) → Numbered o → Numbered (onStream d o)
+on-stream-numbered d (ok a) h = h
+on-stream-numbered d (refused which place stream) h = h
 
-hello-payload : (i j : ℕ) (s : List ℕ) (at : ℕ) → totalOf (run (hello i j) s at) ≡ 0
-hello-payload i j = no-payload (version 0 0) _ (tt, (tt, tt))
+module _ (s u : List ℕ) (slots : ℕ) where
+  rest-numbered : (d : Bool) (o : Result ℕ) (k : ℕ → Heard) (r : Record) → Numbered o → ((e : ℕ) → Numbered (judgeHeard s u slots r (k e))) → Numbered (judgeHeard s u slots r (ifEnds d o k))
+  unfolding judgeHeard
+  rest-numbered d (ok e) k r h g = g e
+  rest-numbered d (refused which place stream) k r h g = h
 
-features-payload : (v : Version) (i : ℕ) (s : List ℕ) (at : ℕ) → totalOf (run (fieldsAt v (featureFields i)) s at) ≡ 0
-features-payload v i = no-payload v (featureFields i) (tt, tt)
+  hear-numbered : {x : Talk} → EachTurn NoFail x → (a b : ℕ) (r q : Record) → Numbered (judgeHeard s u slots q (hear x s u a b r))
+  unfolding hear judgeHeard
+  hear-numbered (at-turn {d = false} {t} {k} f g) a b r q =
+      let p = run t s a in
+      let n = run-numbered s t a f in
+      onward-numbered (onStream false (judgeOf s slots 0 q p)) _ (on-stream-numbered false (judgeOf s slots 0 q p) (judge-numbered s slots 0 q p n))
+      (λ z. rest-numbered false (skipOf p) _ (z .found) n (λ e. hear-numbered (g (recordOf r p) e) e b (recordOf r p) (z .found)))
+  hear-numbered (at-turn {d = true} {t} {k} f g) a b r q =
+      let p = run t u b in
+      let n = run-numbered u t b f in
+      onward-numbered (onStream true (judgeOf u slots 0 q p)) _ (on-stream-numbered true (judgeOf u slots 0 q p) (judge-numbered u slots 0 q p n))
+      (λ z. rest-numbered true (skipOf p) _ (z .found) n (λ e. hear-numbered (g (recordOf r p) e) a e (recordOf r p) (z .found)))
+  hear-numbered (at-lost h) a b r q = h
+  hear-numbered at-over a b r q = tt
 
-handshake-payload : NoPayload handshake
-unfolding handshake greeting
-handshake-payload =
-    at-turn (hello-payload 0 1) λ r e.
-    at-turn (hello-payload 2 3) λ r e.
-    either (eqb (numberIn r 0) clientMagic)
-    (either (eqb (numberIn r 2) daemonMagic)
-    (at-turn (features-payload _ 0) λ r e.
-    at-turn (features-payload _ 1) λ r e.
-    at-turn (no-payload _ obsoleteFields (tt, (tt, tt))) λ r e. info-payload _)
-    at-lost)
-    at-lost
+never-fails : (v : Version) (is : List Gated) → AllFit ⊥ is → NoFail (fieldsAt v is)
+never-fails v is f = layout-never-fails v (once is ∷ [])
 
-daemon-payload : (c : Version) → NoPayload (daemonHandshake c)
-unfolding daemonHandshake daemonGreeting
-daemon-payload c =
-    at-turn (hello-payload 2 3) λ r e.
-    either (eqb (numberIn r 2) daemonMagic) (at-turn (features-payload _ 1) λ r e. info-payload _) at-lost
+pub handshake-numbered : (s u : List ℕ) (slots : ℕ) → Numbered (parseHandshake s u slots)
+unfolding parseHandshake
+handshake-numbered s u slots = onward-numbered (judgeHeard s u slots blank _) _ (hear-numbered s u slots (handshake-turns NoFail never-fails) 0 0 blank blank) (λ x. tt)
+
+pub daemon-handshake-numbered : (c : Version) (u : List ℕ) (slots : ℕ) → Numbered (parseDaemonHandshake c u slots)
+unfolding parseDaemonHandshake
+daemon-handshake-numbered c u slots = onward-numbered (judgeHeard [] u slots blank _) _ (hear-numbered [] u slots (daemon-turns NoFail never-fails c) 0 0 blank blank) (λ x. tt)
 
 -- ---- what `unlessHeard` says, in RFC 3629's words
 module _ {A : Type 0} (s u : List ℕ) where
@@ -319,7 +360,7 @@ heard-answered s u (ended a b) x k = refl
 
 -- ---- demand 3 for both handshakes: where both streams are passed to the end, and with room for all entries, streams that differ in soft bytes only are read
 -- the same, unless a decoded string is not text: then 3 at the first such one, on its stream
-module _ (x : Talk) (f : NoPayload x) (s s' u u' : List ℕ) (a : SoftenedOn false (hear x s u 0 0 blank) s s') (b : SoftenedOn true (hear x s u 0 0 blank) u u')
+module _ (x : Talk) (f : EachTurn NoPayload x) (s s' u u' : List ℕ) (a : SoftenedOn false (hear x s u 0 0 blank) s s') (b : SoftenedOn true (hear x s u 0 0 blank) u u')
     (slots : ℕ) (e : Both) (q : skipHeard (hear x s u 0 0 blank) ≡ ok e) (l : keptHeard (hear x s u 0 0 blank) ≤ slots) where
   soft-judge : {A : Type 0} (k : Both → Result A) → onward (judgeHeard s' u' slots blank (hear x s' u' 0 0 blank)) k
       ≡ unlessHeard s' u' (hear x s u 0 0 blank) (k (bothMean (hear x s u 0 0 blank) e))
@@ -335,7 +376,7 @@ module _ (s s' u u' : List ℕ) (a : SoftenedOn false (hear handshake s u 0 0 bl
   pub soft-handshake : (slots : ℕ) → keptHeard (hear handshake s u 0 0 blank) ≤ slots
       → parseHandshake s' u' slots ≡ unlessHeard s' u' (hear handshake s u 0 0 blank) (handshakeMeaning (hear handshake s u 0 0 blank) e)
   unfolding parseHandshake
-  soft-handshake slots l = soft-judge handshake handshake-payload s s' u u' a b slots e q l (λ x. handshakeAnswer (fromWire (numberIn (x .found) 1)) x)
+  soft-handshake slots l = soft-judge handshake (handshake-turns NoPayload no-payload) s s' u u' a b slots e q l (λ x. handshakeAnswer (fromWire (numberIn (x .found) 1)) x)
 
   -- what follows on both streams is as before
   pub soft-rest-handshake : (drop (e .clientEnds) s' ≡ drop (e .clientEnds) s) × (drop (e .daemonEnds) u' ≡ drop (e .daemonEnds) u)
@@ -348,7 +389,7 @@ module _ (c : Version) (u u' : List ℕ) (b : SoftenedOn true (hear (daemonHands
       → parseDaemonHandshake c u' slots ≡ unlessHeard [] u' (hear (daemonHandshake c) [] u 0 0 blank) (daemonMeaning c (hear (daemonHandshake c) [] u 0 0 blank) e)
   unfolding parseDaemonHandshake
   soft-daemon-handshake slots l =
-      soft-judge (daemonHandshake c) (daemon-payload c) [] [] u u' (record { size = refl; hard = λ x h o. refl }) b slots e q l (λ x. handshakeAnswer c x)
+      soft-judge (daemonHandshake c) (daemon-turns NoPayload no-payload c) [] [] u u' (record { size = refl; hard = λ x h o. refl }) b slots e q l (λ x. handshakeAnswer c x)
 
   -- what follows is as before
   pub soft-rest-daemon-handshake : drop (e .daemonEnds) u' ≡ drop (e .daemonEnds) u

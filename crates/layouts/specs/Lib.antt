@@ -17,5 +17,7 @@ pub mod Examples
 -- what the demands speak of
 pub mod Soft
 pub mod Demands
+-- document 02: W-212
+pub mod Cut
 -- what a refusal of the code means
 pub mod Refusal

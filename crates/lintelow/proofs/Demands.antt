@@ -64,17 +64,17 @@ use Rattle.lintelow.proofs.reads.lintelow_read_framed.Kinds as read-fra
 -- ---- what is lent, by name; the rooms and the block of the arguments a at entry and of x at exit alike
 -- the calls on arguments and replies, which have an operation, a version and a stream before
 module _ {A B C D E : Type 0} where
-  abbrev entriesAt : A × (B × (C × (D × (RefT (List ℕ) × E)))) → List ℕ
+  abbrev pub entriesAt : A × (B × (C × (D × (RefT (List ℕ) × E)))) → List ℕ
   entriesAt a = now (a .1 .1 .1 .1 .0)
 
-  abbrev payloadAt : A × (B × (C × (D × (RefT (List ℕ) × (RefT (List ℕ) × E))))) → List ℕ
+  abbrev pub payloadAt : A × (B × (C × (D × (RefT (List ℕ) × (RefT (List ℕ) × E))))) → List ℕ
   payloadAt a = now (a .1 .1 .1 .1 .1 .0)
 
-  abbrev blockAt : A × (B × (C × (D × (RefT (List ℕ) × (RefT (List ℕ) × (RefT (List ℕ) × E)))))) → List ℕ
+  abbrev pub blockAt : A × (B × (C × (D × (RefT (List ℕ) × (RefT (List ℕ) × (RefT (List ℕ) × E)))))) → List ℕ
   blockAt a = now (a .1 .1 .1 .1 .1 .1 .0)
 
   -- the skipper's
-  abbrev skipBlock : A × (B × (C × (D × (RefT (List ℕ) × E)))) → List ℕ
+  abbrev pub skipBlock : A × (B × (C × (D × (RefT (List ℕ) × E)))) → List ℕ
   skipBlock a = now (a .1 .1 .1 .1 .0)
 
 -- the other calls: one room, and the block behind it. Before it stand the stream; both streams, or a stream and a place; a version and a stream
@@ -86,17 +86,17 @@ module _ {A B : Type 0} where
   errorBlock a = now (a .1 .1 .0)
 
 module _ {A B C : Type 0} where
-  abbrev roomOf : A × (B × (RefT (List ℕ) × C)) → List ℕ
+  abbrev pub roomOf : A × (B × (RefT (List ℕ) × C)) → List ℕ
   roomOf a = now (a .1 .1 .0)
 
-  abbrev roomBlock : A × (B × (RefT (List ℕ) × (RefT (List ℕ) × C))) → List ℕ
+  abbrev pub roomBlock : A × (B × (RefT (List ℕ) × (RefT (List ℕ) × C))) → List ℕ
   roomBlock a = now (a .1 .1 .1 .0)
 
 module _ {A B C D : Type 0} where
-  abbrev daemonRoom : A × (B × (C × (RefT (List ℕ) × D))) → List ℕ
+  abbrev pub daemonRoom : A × (B × (C × (RefT (List ℕ) × D))) → List ℕ
   daemonRoom a = now (a .1 .1 .1 .0)
 
-  abbrev daemonBlock : A × (B × (C × (RefT (List ℕ) × (RefT (List ℕ) × D)))) → List ℕ
+  abbrev pub daemonBlock : A × (B × (C × (RefT (List ℕ) × (RefT (List ℕ) × D)))) → List ℕ
   daemonBlock a = now (a .1 .1 .1 .1 .0)
 
 -- ---- demand 1. Of each call, `-refused`: a nonzero number returned leaves the lent rooms as they were; `-written`: whatever it returns, all bytes of a room behind

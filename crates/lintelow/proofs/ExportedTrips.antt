@@ -9,13 +9,13 @@ use borrow.Fn.Kinds.{Dens, endedOf}
 use denote.Triple.Clauses.{AtExit}
 use denote.Ref.{now}
 use Rattle.layouts.specs.Primitive.{numberAt, limit, Result}
-use Rattle.layouts.specs.Shape.{passed}
+use Rattle.layouts.specs.Shape.{asCount, passed, kept, str, set}
 use Rattle.layouts.specs.Judge.{Ended, lentAfter}
 use Rattle.layouts.specs.Calls.{skipString, readString}
 use Rattle.layouts.specs.Writers.{stringBytes, writing, writeString, textsOf, writeStringSet, outputOf}
 use Rattle.layouts.specs.Demands.{Zeros, ZeroPadded, setPieces}
 use Rattle.layouts.proofs.Little.{number-small}
-use Rattle.layouts.proofs.Success.{onward-numbered, writing-numbered, string-numbered, set-numbered, skip-numbered, read-numbered, read-set-numbered}
+use Rattle.layouts.proofs.Success.{onward-numbered, writing-numbered, string-numbered, set-numbered, skip-field-numbered, read-field-numbered}
 use Rattle.layouts.proofs.Writers.{writing-told, string-told}
 use Rattle.writers_output.specs.Numbers.{bytesOf}
 use Rattle.entries.specs.Entries.{entriesIn}
@@ -89,14 +89,14 @@ module _ (κs : Lfts 3) (a : Dens κs write-string-kinds.ps) (w : ℕ) (x : AtEx
     pub string-written-again : read-string.Post κs′ a′ r x′ → write-string.Post κs a w x → OutputReported w reported output stream place (endTold answer - place)
     string-written-again p q =
         exported-back contents lent output report reported stream block answer place w r (writeString contents lent) (readText stream place) q p
-        (onward-numbered (readString stream place) _ (read-numbered stream place) (λ e. tt)) (text-within stream place)
+        (onward-numbered (readString stream place) _ (read-field-numbered stream place (str kept) 1 0) (λ e. tt)) (text-within stream place)
         (λ y e z f g h. text-again stream place (p .1 .1) y z contents lent output f g e h) read zeroed same room long
 
     -- and so do any bytes
     pub bytes-written-again : read-bytes.Post κs′ a′ r x′ → write-bytes.Post κs a w x → OutputReported w reported output stream place (endTold answer - place)
     bytes-written-again p q =
         exported-back contents lent output report reported stream block answer place w r (writing (stringBytes contents) lent) (readBytes stream place) q p
-        (onward-numbered (skipString stream place) _ (skip-numbered stream passed place) (λ e. tt)) (bytes-within stream place)
+        (onward-numbered (skipString stream place) _ (skip-field-numbered stream place (str passed)) (λ e. tt)) (bytes-within stream place)
         (λ y e z f g h. bytes-again stream place (p .1 .1) y z contents lent output f g e h) read zeroed same room long
 
 -- ---- sets: a call of `lintelow_write_string_set`, and one of `lintelow_read_string_set`. Sixteen bytes make a slot
@@ -182,7 +182,7 @@ module _ (κs : Lfts 4) (a : Dens κs write-string-set-kinds.ps) (w : ℕ) (x : 
       let o = writeStringSet bytesGiven es count setLent in
       let b = outputOf (textsOf bytesGiven es count) in
       let p' : WrittenBy setReport setReported setLent setOutput b w o = (p .0, (p .1 .0, p .1 .1 .0)) in
-      let t = read-set-told setBlock setAnswer r _ (q .0) (q .1 .0) (read-set-numbered setStream setPlace (length slots / 16)) read in
+      let t = read-set-told setBlock setAnswer r _ (q .0) (q .1 .0) (read-field-numbered setStream setPlace (set kept (asCount 0)) (length slots / 16) 0) read in
       let y = set-again setStream setPlace (length slots / 16) (t .1) (q .1 .1 .1) (t .2) zeroed in
       let h = q .1 .1 .1 .1 in
       let k = y .within in

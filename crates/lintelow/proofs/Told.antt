@@ -1,5 +1,4 @@
--- What the number that a call returns, its block and its rooms say of what was judged; that no refusal of a skipped reply has the number 0; and strings by entries
--- of sixteen bytes.
+-- What the number that a call returns, its block and its rooms say of what was judged; and strings by entries of sixteen bytes.
 use Prim.Native.Nat.{ℕ, zero, suc, _+_, _*_, _/_, _≤_, _<_}
 use mathlib.Core.Path.{_≡_, refl, sym, _∙_, ap}
 use mathlib.Core.List.{List, [], _∷_, _++_, append-assoc}
@@ -10,19 +9,16 @@ use lib.Dec.{leb}
 use lib.Seq.{drop-append-seam}
 use borrow.Author.Tests.{lt-ltb}
 use Rattle.layouts.specs.Primitive.{pick, littleAt, numberAt, numberBytes, Version, outputFull, Result, ok, refused}
-use Rattle.layouts.specs.Shape.{Target, Role, Tree, ask, say, frames, fail, stop, layout}
-use Rattle.layouts.specs.Pieces.{Pieces, Num, Text, Chunk, afterNum, afterText, afterChunk, chunks, run, skipOf}
+use Rattle.layouts.specs.Pieces.{Pieces}
 use Rattle.layouts.specs.Record.{isKept}
 use Rattle.layouts.specs.Judge.{entry, entriesOf, lentAfter}
 use Rattle.layouts.specs.Writers.{slotsOf, entryStart, entryLength, viewOf}
-use Rattle.layouts.specs.Operations.{Row, row, unknown, find}
 use Rattle.layouts.specs.Calls as L
-use Rattle.layouts.specs.Calls.{byRow, replyTree, skipDaemonResult}
+use Rattle.layouts.specs.Calls.{skipDaemonResult}
 use Rattle.layouts.specs.Demands.{Verdict, all-text, first-bad}
 use Rattle.layouts.proofs.Little.{little-drop, length-number, number-of-bytes}
-use Rattle.layouts.proofs.Views.{NumView, is-value, is-short, TextView, no-length, too-long, no-contents, no-padding, is-whole, ChunkView, no-size, is-last, too-large, no-bytes, is-part, num-view, text-view, chunk-view}
-use Rattle.layouts.proofs.Placed.{Placed, on-number, on-text, on-half, on-chunk, on-end, on-fault, NoFail}
-use Rattle.layouts.proofs.Trees.{layout-never-fails}
+use Rattle.layouts.proofs.Placed.{Placed, on-number, on-text, on-half, on-chunk, on-end, on-fault}
+use Rattle.layouts.proofs.Success.{Numbered, skip-reply-numbered}
 use Rattle.entries.specs.Entries.{numbersFrom, entriesIn}
 use Rattle.writers_output.specs.Numbers.{bytesOf}
 use Rattle.writers_output.proofs.Numbers.{bytes-length}
@@ -32,7 +28,7 @@ use Rattle.walk_judge.specs.declared.Answer.{Answer}
 use Rattle.walk_judge.specs.Judged.{answerAs}
 use Rattle.walk_judge.proofs.Answers.{beyond}
 use Rattle.lintelow_answers.specs.Skips.{resultSkipped}
-use Rattle.lintelow_answers.specs.Block.{refusalOf, numbersOf, guarded, numberOf, blockAfter, numberPut, blockPut}
+use Rattle.lintelow_answers.specs.Block.{refusalOf, numbersOf, guarded, numberOf, numberPut, blockPut}
 use Rattle.lintelow.specs.Demands.{endTold, entriesTold, payloadTold, Lendable, Tells}
 
 -- ---- the numbers of a block
@@ -105,72 +101,14 @@ module _ {A : Type 0} (f : Result A → Answer) (fine : (y : A) → f (ok y) .ou
   payload-only ps e l c =
       reports-by f fine block ps lent out (leb 200 (length block)) o after 7 (λ n. n) (omega arith) (t .1) e (λ y q. let w = c y q in (omega arith, w .0))
 
--- ---- a refusal's number; 1 where there is none
-abbrev whichOf : {A : Type 0} → Result A → ℕ
-whichOf (ok a) = 1
-whichOf (refused which place stream) = which
-
--- pieces that are refused by no 0
-abbrev Numbered : Pieces → Type 0
-Numbered p = 0 < whichOf (skipOf p)
-
-module _ (size n at : ℕ) where
-  num-numbered : (i : Target) {m : Num} (k : ℕ → Pieces) → NumView size n at m → Numbered (k n) → Numbered (afterNum m i at k)
-  unfolding afterNum skipOf
-  num-numbered i k (is-value h) g = g
-  num-numbered i k (is-short h) g = omega arith
-
-  text-numbered : (r : Role) {m : Text} (k : ℕ → Pieces) → TextView size n at m → ((a : ℕ) → Numbered (k a)) → Numbered (afterText m r k)
-  unfolding afterText skipOf
-  text-numbered r k (no-length h) g = omega arith
-  text-numbered r k (too-long h l) g = omega arith
-  text-numbered r k (no-contents h l c) g = omega arith
-  text-numbered r k (no-padding h l c) g = omega arith
-  text-numbered r k (is-whole h l) g = g _
-
-  chunk-numbered : {m : Chunk} (again k : ℕ → Pieces) → ChunkView size n at m → ((a : ℕ) → Numbered (again a)) → ((a : ℕ) → Numbered (k a)) → Numbered (afterChunk m again k)
-  unfolding afterChunk skipOf
-  chunk-numbered again k (no-size h) f g = omega arith
-  chunk-numbered again k (is-last h z) f g = g _
-  chunk-numbered again k (too-large h l) f g = omega arith
-  chunk-numbered again k (no-bytes h z l c) f g = omega arith
-  chunk-numbered again k (is-part h z l) f g = f _
-
-module _ (s : List ℕ) where
-  chunks-numbered : (f at : ℕ) (k : ℕ → Pieces) → ((a : ℕ) → Numbered (k a)) → Numbered (chunks f s at k)
-  unfolding chunks skipOf
-  chunks-numbered zero at k g = omega arith
-  chunks-numbered (suc f) at k g =
-      chunk-numbered (length s) (numberAt s at) at (λ a. chunks f s a k) k (chunk-view (length s) (numberAt s at) at) (λ a. chunks-numbered f a k g) g
-
-  run-numbered : (t : Tree) (at : ℕ) → NoFail t → Numbered (run t s at)
-  unfolding run skipOf
-  run-numbered (ask i k) at f =
-      num-numbered (length s) (numberAt s at) at i (λ n. run (k n) s (at + 8)) (num-view (length s) (numberAt s at) at)
-      (run-numbered (k (numberAt s at)) (at + 8) (f (numberAt s at)))
-  run-numbered (say r k) at f =
-      text-numbered (length s) (numberAt s at) at r (λ a. run (k tt) s a) (text-view (length s) (numberAt s at) at) (λ a. run-numbered (k tt) a f)
-  run-numbered (frames k) at f = chunks-numbered (suc (length s)) at (λ a. run (k tt) s a) (λ a. run-numbered (k tt) a f)
-  run-numbered (fail which place) at f = absurd f
-  run-numbered stop at f = omega arith
-
-  row-numbered : (v : Version) (f : Row) → Numbered (run (byRow f (λ o. layout v (o .reply))) s 0)
-  unfolding run skipOf
-  row-numbered v (row o) = run-numbered (layout v (o .reply)) 0 (layout-never-fails v (o .reply))
-  row-numbered v unknown = omega arith
-
-  reply-numbered : (op : ℕ) (v : Version) → 0 < whichOf (skipDaemonResult op v s)
-  unfolding skipDaemonResult replyTree
-  reply-numbered op v = row-numbered v (find op)
-
-verdict-numbered : {A : Type 0} {s : List ℕ} {p : Pieces} {y : A} {o : Result A} → Verdict s p (ok y) o → 0 < whichOf o
-verdict-numbered (all-text h) = omega arith
+-- ---- where 0 is returned
+verdict-numbered : {A : Type 0} {s : List ℕ} {p : Pieces} {y : A} {o : Result A} → Verdict s p (ok y) o → Numbered o
+verdict-numbered (all-text h) = tt
 verdict-numbered (first-bad h) = omega arith
 
--- ---- where 0 is returned
 module _ (block : List ℕ) where
   passed-by : (b : Bool) (o : Result ℕ) (number : ℕ) (after : List ℕ) → number ≡ pick b (getD (numbersOf (answerAs (resultSkipped o))) 0 0) outputFull
-      → after ≡ pick b (bytesOf (numbersOf (answerAs (resultSkipped o))) ++ drop 200 block) block → 0 < whichOf o → number ≡ 0
+      → after ≡ pick b (bytesOf (numbersOf (answerAs (resultSkipped o))) ++ drop 200 block) block → Numbered o → number ≡ 0
       → (e : ℕ) × (o ≡ ok e) × (e < 18446744073709551616 → endTold after ≡ e)
   passed-by true (ok e) number after t q n z = (e, refl, λ h. ap (λ (l : List ℕ). numberAt l 32) q ∙ told-at (answerAs (resultSkipped (ok e))) refl 4 (drop 200 block) (omega arith) h)
   passed-by true (refused which place stream) number after t q n z = absurd (omega arith)
@@ -180,9 +118,9 @@ module _ (block : List ℕ) where
   pub reply-passed : (op : ℕ) (v : Version) (s : List ℕ) (number : ℕ) (after : List ℕ) → Tells (answerAs (resultSkipped (skipDaemonResult op v s))) block number after
       → number ≡ 0 → (e : ℕ) × (skipDaemonResult op v s ≡ ok e) × (e < 18446744073709551616 → endTold after ≡ e)
   unfolding numberPut blockPut
-  reply-passed op v s number after t z = passed-by (leb 200 (length block)) (skipDaemonResult op v s) number after (t .0) (t .1) (reply-numbered s op v) z
+  reply-passed op v s number after t z = passed-by (leb 200 (length block)) (skipDaemonResult op v s) number after (t .0) (t .1) (skip-reply-numbered s op v) z
 
-  fills-by : (b : Bool) (o : Result L.Answer) (number : ℕ) (new lent out : List ℕ) → 0 < whichOf o → number ≡ pick b (getD (numbersOf (answerAs o)) 0 0) outputFull
+  fills-by : (b : Bool) (o : Result L.Answer) (number : ℕ) (new lent out : List ℕ) → Numbered o → number ≡ pick b (getD (numbersOf (answerAs o)) 0 0) outputFull
       → out ≡ lentAfter (pick b o (refused outputFull 0 0)) new lent → number ≡ 0 → out ≡ new ++ drop (length new) lent
   fills-by true (ok y) number new lent out n t e z = e
   fills-by true (refused which place stream) number new lent out n t e z = absurd (omega arith)

@@ -11,9 +11,12 @@ use Rattle.lintelow_answers.specs.Block.{numberOf, blockAfter}
 abbrev pub inBlock : (i : ℕ) → (block : List ℕ) → ℕ
 inBlock i block = numberAt block (8 * i)
 
--- the end, and of a writer the length of its output; how many entries; how many bytes of payload
+-- the end, and of a writer the length of its output; the end on the daemon's stream of a handshake; how many entries; how many bytes of payload
 abbrev pub endTold : (block : List ℕ) → ℕ
 endTold block = inBlock 4 block
+
+abbrev pub end2Told : (block : List ℕ) → ℕ
+end2Told block = inBlock 5 block
 
 abbrev pub entriesTold : (block : List ℕ) → ℕ
 entriesTold block = inBlock 6 block

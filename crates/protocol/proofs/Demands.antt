@@ -69,10 +69,10 @@ module _ {A : Type 0} where
 
 -- the rooms at exit
 module _ {A B C D E : Type 0} where
-  abbrev entriesAfter : A × (B × (C × (D × (RefT (List ℕ) × E)))) → List ℕ
+  abbrev pub entriesAfter : A × (B × (C × (D × (RefT (List ℕ) × E)))) → List ℕ
   entriesAfter x = now (x .1 .1 .1 .1 .0)
 
-  abbrev payloadAfter : A × (B × (C × (D × (RefT (List ℕ) × (RefT (List ℕ) × E))))) → List ℕ
+  abbrev pub payloadAfter : A × (B × (C × (D × (RefT (List ℕ) × (RefT (List ℕ) × E))))) → List ℕ
   payloadAfter x = now (x .1 .1 .1 .1 .1 .0)
 
 -- ---- laws of any tree

@@ -52,7 +52,7 @@ number-back : (r : Read) → readBy (λ x. getD (x .found .numbers) 0 0) (number
 number-back (R.Value v next) = refl
 number-back (R.Refused r) = refl
 
-number-told : {b : Result Ended} (r r′ : Read) → numberRead r ≡ b → numberRead r′ ≡ b → r ≡ r′
+pub number-told : {b : Result Ended} (r r′ : Read) → numberRead r ≡ b → numberRead r′ ≡ b → r ≡ r′
 number-told = told numberRead (readBy (λ x. getD (x .found .numbers) 0 0)) number-back
 
 count-back : (r : Read) → readBy (λ x. x .found .entries) (countRead r) ≡ r
@@ -66,7 +66,7 @@ total-back : (r : Read) → readBy (λ x. x .found .payload) (totalRead r) ≡ r
 total-back (R.Value v next) = refl
 total-back (R.Refused r) = refl
 
-total-told : {b : Result Ended} (r r′ : Read) → totalRead r ≡ b → totalRead r′ ≡ b → r ≡ r′
+pub total-told : {b : Result Ended} (r r′ : Read) → totalRead r ≡ b → totalRead r′ ≡ b → r ≡ r′
 total-told = told totalRead (readBy (λ x. x .found .payload)) total-back
 
 abbrev peekedOf : Num → Peeked
@@ -99,7 +99,7 @@ skipped-back : (r : Skipped) → skippedOf (skippedTo r) ≡ r
 skipped-back (P.Past next) = refl
 skipped-back (P.Refused r) = refl
 
-skipped-told : {b : Result ℕ} (r r′ : Skipped) → skippedTo r ≡ b → skippedTo r′ ≡ b → r ≡ r′
+pub skipped-told : {b : Result ℕ} (r r′ : Skipped) → skippedTo r ≡ b → skippedTo r′ ≡ b → r ≡ r′
 skipped-told = told skippedTo skippedOf skipped-back
 
 -- ---- the methods

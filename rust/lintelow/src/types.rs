@@ -227,7 +227,7 @@ pub enum StderrCode {
 pub struct StderrResult {
     /// How many, with the terminal one.
     pub count: u64,
-    /// `None` where something else follows the last message.
+    /// `None` where something else follows the last message, or nothing: the stream may be cut there, and what follows need not be a reply.
     pub terminal: Option<StderrCode>,
 }
 

@@ -37,6 +37,7 @@ pub fn line(event: &Event) -> String {
         Event::Call(call) => self::call(call),
         Event::Stop(Stop::Refused(refused)) => self::refused(refused),
         Event::Stop(Stop::Unfollowed(unfollowed)) => self::unfollowed(unfollowed),
+        Event::Stop(Stop::Unended(unended)) => self::unended(unended),
         Event::End(end) => Object::new().text("event", "end").number("calls", end.calls).range("left", &end.left),
     };
     object.close()
@@ -118,6 +119,10 @@ fn unfollowed(unfollowed: &Unfollowed) -> Object {
         .raw("known", if unfollowed.known { "true" } else { "false" })
         .number("client", unfollowed.client as u64)
         .number("daemon", unfollowed.daemon as u64)
+}
+
+fn unended(unended: &Unended) -> Object {
+    Object::new().text("event", "unended").number("call", unended.call).number("op", unended.op).number("daemon", unended.daemon as u64)
 }
 
 fn part(part: Part) -> &'static str {

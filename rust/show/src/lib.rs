@@ -37,6 +37,7 @@ pub enum Status {
     Refused = 1,
     Unreadable = 2,
     Unfollowed = 3,
+    Unended = 4,
 }
 
 /// The program: what the words of its command line ask for.
@@ -115,6 +116,7 @@ fn after(event: &Event) -> Status {
     match event {
         Event::Stop(Stop::Refused(_)) => Status::Refused,
         Event::Stop(Stop::Unfollowed(_)) => Status::Unfollowed,
+        Event::Stop(Stop::Unended(_)) => Status::Unended,
         Event::Handshake(_) | Event::Call(_) | Event::End(_) => Status::Read,
     }
 }

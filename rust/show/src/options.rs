@@ -11,7 +11,7 @@ Shows a recorded session between a Nix client and its daemon. FOLDER has client.
   --summary   counts by operation, bytes and refusals; with --json as JSON
   --full      in words: nothing is shortened or left out
 
-Exit status: 0 the session was read to its end; 1 a refusal; 2 a file or the command line; 3 a call that can't be followed.
+Exit status: 0 the session was read to its end; 1 a refusal; 2 a file or the command line; 3 a call that can't be followed; 4 messages not ended.
 ";
 
 #[derive(Debug, Default, PartialEq, Eq)]

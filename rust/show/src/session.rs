@@ -36,6 +36,7 @@ pub enum Event {
 pub enum Stop {
     Refused(Refused),
     Unfollowed(Unfollowed),
+    Unended(Unended),
 }
 
 #[derive(Debug)]
@@ -118,6 +119,15 @@ pub struct Unfollowed {
     pub daemon: usize,
 }
 
+/// A call whose messages end with neither Last nor Error: they may be cut, so what follows is not taken for a reply.
+#[derive(Debug)]
+pub struct Unended {
+    pub call: u64,
+    pub op: u64,
+    /// Where the messages stopped, in the daemon's stream.
+    pub daemon: usize,
+}
+
 /// The client says no more.
 #[derive(Debug)]
 pub struct End {
@@ -190,13 +200,13 @@ impl<'s> Session<'s> {
     fn converse(&mut self, call: &mut Call) -> Result<(), Stop> {
         call.arguments = Some(self.arguments(call)?);
         let messages = self.messages(call)?;
-        let failed = messages.terminal == Some(StderrCode::Error);
+        let terminal = messages.terminal;
         let messages = call.messages.insert(messages).bytes.clone();
-        let error = if failed { self.error(call, messages)? } else { None };
-        call.outcome = Some(match error {
-            Some(error) => error,
-            None => self.reply(call)?,
-        });
+        call.outcome = match terminal {
+            Some(StderrCode::Last) => Some(self.reply(call)?),
+            Some(StderrCode::Error) => self.error(call, messages)?,
+            None => return Err(Stop::Unended(Unended { call: call.index, op: call.op, daemon: messages.end })),
+        };
         Ok(())
     }
 

@@ -36,6 +36,7 @@ impl<W: Write> View for Words<'_, W> {
             Event::Call(call) => self.call(call),
             Event::Stop(Stop::Refused(refused)) => self.refused(refused),
             Event::Stop(Stop::Unfollowed(unfollowed)) => self.unfollowed(unfollowed),
+            Event::Stop(Stop::Unended(unended)) => self.unended(unended),
             Event::End(end) => self.end(end),
         }
     }
@@ -115,10 +116,7 @@ impl<'s, W: Write> Words<'s, W> {
             refused.side.name(),
             refused.place
         )?;
-        for row in hex::view(stream, refused.place) {
-            writeln!(self.out, "    {row}")?;
-        }
-        Ok(())
+        self.bytes_around(stream, refused.place)
     }
 
     fn unfollowed(&mut self, unfollowed: &Unfollowed) -> io::Result<()> {
@@ -128,6 +126,15 @@ impl<'s, W: Write> Words<'s, W> {
         writeln!(self.out, "  what comes after can't be placed: client from {client}, daemon from {daemon}")
     }
 
+    fn unended(&mut self, unended: &Unended) -> io::Result<()> {
+        let Unended { call, op, daemon } = *unended;
+        let title = self.red("not ended");
+        let name = names::operation(op);
+        writeln!(self.out, "\n{title}  call {call}: the messages of {op} {name} end with neither Last nor Error, so no reply is read")?;
+        writeln!(self.out, "  they stop at byte {daemon} of daemon.bin: it may be cut, or the daemon said more than was read (docs/DIFFERENCES.md)")?;
+        self.bytes_around(self.daemon, daemon)
+    }
+
     fn end(&mut self, end: &End) -> io::Result<()> {
         let title = self.bold("end");
         writeln!(self.out, "\n{title}  {} calls; client {} bytes, daemon {} bytes", end.calls, self.client.len(), self.daemon.len())?;
@@ -135,6 +142,13 @@ impl<'s, W: Write> Words<'s, W> {
             let title = self.red("left over");
             writeln!(self.out, "{title}  daemon {}: these bytes belong to no call", bytes(&end.left))?;
             writeln!(self.out, "  either client.bin lacks calls, or the daemon said more than was read (docs/DIFFERENCES.md)")?;
+        }
+        Ok(())
+    }
+
+    fn bytes_around(&mut self, stream: &[u8], place: usize) -> io::Result<()> {
+        for row in hex::view(stream, place) {
+            writeln!(self.out, "    {row}")?;
         }
         Ok(())
     }

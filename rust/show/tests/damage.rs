@@ -3,6 +3,8 @@ mod common;
 
 use common::*;
 use lintelow_show::{Options, Status};
+use std::fs;
+use std::path::Path;
 
 const EVERY_VIEW: [(bool, bool); 4] = [(false, false), (true, false), (false, true), (true, true)];
 
@@ -29,16 +31,84 @@ fn every_beginning_of_the_clients_stream() {
     }
 }
 
+/// None of them is told as a whole session.
 #[test]
 fn every_beginning_of_the_daemons_stream() {
-    for name in ["n226-nbuild-0", "n28-fail-0"] {
-        let (client, daemon) = streams(name);
-        let mut refused = 0;
-        for length in (0..daemon.len()).step_by(3) {
-            refused += usize::from(any_end(&client, &daemon[..length]) == Status::Refused);
+    for name in names() {
+        let (client, daemon) = streams(&name);
+        let (_, json) = told(&client, &daemon, &as_json());
+        // Bytes that are left over belong to no call, so none lacks them.
+        let end = range_after(json.lines().last().unwrap(), "\"left\":").map_or(daemon.len(), |(start, _)| start);
+        let mut unended = 0;
+        for length in 0..end {
+            let status = any_end(&client, &daemon[..length]);
+            assert_ne!(status, Status::Read, "{name}, cut to {length} bytes");
+            unended += usize::from(status == Status::Unended);
         }
-        assert!(refused * 3 > daemon.len() - 32, "{name}: refused {refused} times");
+        // Messages are not ended where the eight bytes of a message's code are missing or cut.
+        let messages: usize = json.lines().filter_map(|line| number_after(line, "\"count\":")).sum();
+        assert_eq!(unended, 8 * messages, "{name}");
     }
+}
+
+/// The same of each call's answer where the client says no more: no later call shows then that something is missing.
+#[test]
+fn every_beginning_of_a_last_answer() {
+    let mut answers = 0;
+    for name in names() {
+        let (client, daemon) = streams(&name);
+        let (_, json) = told(&client, &daemon, &as_json());
+        for call in json.lines() {
+            let range = |part: &str| range_after(call, &format!("\"{part}\":{{\"range\":"));
+            let (Some((_, said)), Some((start, _)), Some((_, end))) = (range("arguments"), range("messages"), range("reply").or(range("error")))
+            else {
+                continue;
+            };
+            let status = |length| told(&client[..said], &daemon[..length], &as_json()).0;
+            assert_eq!(status(end), Status::Read, "{name}, whole at {end} bytes");
+            for length in start..end {
+                assert_ne!(status(length), Status::Read, "{name}, cut to {length} bytes");
+            }
+            answers += 1;
+        }
+    }
+    assert_eq!(answers, 83, "answers of captures/");
+}
+
+/// A call's messages, none or one, and then no code: nothing, the beginning of Last, the reply without Last, and other numbers, some almost Last.
+#[test]
+fn messages_that_are_not_ended() {
+    const NEXT: u64 = 0x6f6c6d67;
+    let (mut client, mut before) = handshake(34);
+    client.extend(numbers(&[13, 13, 13]));
+    before.extend(numbers(&[LAST, 1]));
+    let last = numbers(&[LAST]);
+    let mut rests: Vec<Vec<u8>> = (0..8).map(|length| last[..length].to_vec()).collect();
+    rests.extend([&[1][..], &[1, LAST, 1], &[LAST + 1, 1], &[LAST | 1 << 32, 1], &[u64::MAX]].map(numbers));
+    for (count, messages) in [(0, numbers(&[])), (1, numbers(&[NEXT, 0]))] {
+        let (start, stop) = (before.len(), before.len() + messages.len());
+        for rest in &rests {
+            let daemon = [&before[..], &messages, rest].concat();
+            assert_eq!(any_end(&client, &daemon), Status::Unended, "{rest:?}");
+            let (_, json) = told(&client, &daemon, &as_json());
+            let lines: Vec<&str> = json.lines().collect();
+            let [_, _, call, unended] = lines[..] else { panic!("{lines:?}") };
+            let expected = format!("}},\"messages\":{{\"range\":[{start},{stop}],\"count\":{count},\"terminal\":null}}}}");
+            assert!(call.starts_with("{\"event\":\"call\",\"call\":2,\"op\":13,") && call.ends_with(&expected), "{rest:?}: {call}");
+            assert_eq!(unended, format!("{{\"event\":\"unended\",\"call\":2,\"op\":13,\"daemon\":{stop}}}"), "{rest:?}");
+        }
+    }
+}
+
+/// The count of traces is left over from the error block (docs/DIFFERENCES.md), and is not taken for the next call's reply.
+#[test]
+fn a_call_behind_an_error() {
+    let (mut client, mut daemon) = streams("n28-fail-0");
+    client.extend(numbers(&[13]));
+    daemon.extend(numbers(&[LAST, 1]));
+    assert_eq!(any_end(&client, &daemon), Status::Unended);
+    let (_, json) = told(&client, &daemon, &as_json());
+    assert_eq!(json.lines().last(), Some("{\"event\":\"unended\",\"call\":6,\"op\":13,\"daemon\":2736}"));
 }
 
 #[test]
@@ -102,20 +172,56 @@ fn streams_of_chance() {
     }
 }
 
+/// What the program prints of a recording with these streams, whose folder gets a name; its exit status.
+fn shown(name: &str, client: &[u8], daemon: &[u8], options: &[&str]) -> (i32, String) {
+    let folder = Path::new(env!("CARGO_TARGET_TMPDIR")).join(name);
+    fs::create_dir_all(&folder).unwrap();
+    fs::write(folder.join("client.bin"), client).unwrap();
+    fs::write(folder.join("daemon.bin"), daemon).unwrap();
+    let output = program().args(options).arg(&folder).output().unwrap();
+    assert!(output.stderr.is_empty());
+    (status(&output), printed(&output).to_owned())
+}
+
 #[test]
 fn the_program_says_what_is_refused() {
-    let folder = std::path::Path::new(env!("CARGO_TARGET_TMPDIR")).join("cut");
-    std::fs::create_dir_all(&folder).unwrap();
     let (client, daemon) = streams("n226-nbuild-0");
-    std::fs::write(folder.join("client.bin"), &client).unwrap();
-    std::fs::write(folder.join("daemon.bin"), &daemon[..500]).unwrap();
-    let output = program().arg(&folder).output().unwrap();
-    assert_eq!(status(&output), 1);
-    assert!(output.stderr.is_empty());
+    let (status, words) = shown("cut", &client, &daemon[..500], &[]);
+    assert_eq!(status, 1);
     let expected = "
 refused by 1  cut short: a number, contents, padding or chunk needs more bytes than remain
   in the reply of call 3, 7 AddToStore, the daemon's stream (daemon.bin), at byte 496
 ";
-    let refusal = &printed(&output)[printed(&output).find("\nrefused").unwrap()..];
+    let refusal = &words[words.find("\nrefused").unwrap()..];
     assert!(refusal.starts_with(expected), "{refusal}");
+}
+
+/// The first call of this recording, SetOptions, has a reply of nothing: without the daemon's Last it would look whole.
+#[test]
+fn the_program_says_what_is_not_ended() {
+    let (client, daemon) = streams("n28-delete-0");
+    let in_words = "
+not ended  call 1: the messages of 19 SetOptions end with neither Last nor Error, so no reply is read
+  they stop at byte 40 of daemon.bin: it may be cut, or the daemon said more than was read (docs/DIFFERENCES.md)
+    24  32 2e 38 2e 30 00 00 00  2.8.0...
+    32  73 74 6c 61 00 00 00 00  stla....
+    40 [--]
+";
+    let in_json = "\n{\"event\":\"unended\",\"call\":1,\"op\":19,\"daemon\":40}\n";
+    let messages_in_words = "  messages   daemon 40..40  0, not ended\n";
+    let messages_in_json = "\"messages\":{\"range\":[40,40],\"count\":0,\"terminal\":null}}";
+    let counts_in_words = "     all                                 1        0        1             104              0            0\n";
+    let counts_in_json = "\"refused\":1,\"argument_bytes\":104,\"message_bytes\":0,\"reply_bytes\":0},\"client_bytes\":144,\"daemon_bytes\":40}";
+    for (options, before, last) in [
+        (&[][..], messages_in_words, in_words),
+        (&["--json"], messages_in_json, in_json),
+        (&["--summary"], counts_in_words, in_words),
+        (&["--summary", "--json"], counts_in_json, in_json),
+    ] {
+        let (status, told) = shown("unended", &client[..144], &daemon[..40], options);
+        assert_eq!(status, 4, "{options:?}");
+        assert!(told.ends_with(&[before, last].concat()), "{options:?}: {told}");
+    }
+    let (status, _) = shown("ended", &client[..144], &daemon[..48], &[]);
+    assert_eq!(status, 0);
 }

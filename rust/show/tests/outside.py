@@ -2,7 +2,7 @@
 
     outside.py PROGRAM CAPTURES FOLDER
 
-Runs PROGRAM over the recorded sessions of CAPTURES, and over a long one that it makes below FOLDER.
+Runs PROGRAM over the recorded sessions of CAPTURES, and over a cut one and a long one that it makes below FOLDER.
 """
 import json
 import os
@@ -41,25 +41,43 @@ def on_terminal(arguments, environment=None, stdout=None):
     return run.wait(), written
 
 
+def recording(name, client, daemon):
+    """A recording of these bytes."""
+    session = folder / name
+    session.mkdir(parents=True, exist_ok=True)
+    (session / "client.bin").write_bytes(client)
+    (session / "daemon.bin").write_bytes(daemon)
+    return session
+
+
+def cut_recording():
+    """A recording whose daemon says nothing after the handshake."""
+    whole = captures / "n28-build-0"
+    return recording("cut", (whole / "client.bin").read_bytes(), (whole / "daemon.bin").read_bytes()[:40])
+
+
 def sessions_as_json():
-    """Each recorded session with its options, its exit status and its objects."""
-    for session in sorted(path for path in captures.iterdir() if path.is_dir()):
+    """Each recorded session, and a cut one, with its options, its exit status and its objects."""
+    recorded = sorted(path for path in captures.iterdir() if path.is_dir())
+    for session in [*recorded, cut_recording()]:
         for options in (["--json"], ["--json", "--summary"]):
             run = subprocess.run([program, *options, str(session)], capture_output=True, check=False)
             yield session, options, run.returncode, [json.loads(line) for line in run.stdout.splitlines()]
 
 
 def json_parses():
-    count = 0
+    count, ends = 0, set()
     for session, options, status, events in sessions_as_json():
         last = events[-1]["event"]
-        assert {"end": 0, "refusal": 1, "unfollowed": 3}[last] == status, (session, last, status)
+        assert {"end": 0, "refusal": 1, "unfollowed": 3, "unended": 4}[last] == status, (session, last, status)
+        ends.add(last)
         kinds = [event["event"] for event in events[:-1]]
         if "--summary" in options:
             assert kinds == ["summary"], (session, kinds)
         elif kinds:
             assert kinds == ["handshake"] + ["call"] * (len(kinds) - 1), (session, kinds)
         count += len(events)
+    assert len(ends) == 4, ends
     return f"{count} lines of JSON parse"
 
 
@@ -77,12 +95,9 @@ def colours_on_a_terminal_only():
 
 def long_recording(calls):
     """A recording of calls of SyncWithGC, which has no arguments and a number for reply."""
-    session = folder / "long"
-    session.mkdir(parents=True, exist_ok=True)
     handshake = captures / "n28-build-0"
-    (session / "client.bin").write_bytes((handshake / "client.bin").read_bytes()[:32] + numbers(13) * calls)
-    (session / "daemon.bin").write_bytes((handshake / "daemon.bin").read_bytes()[:40] + numbers(LAST, 1) * calls)
-    return session
+    client, daemon = (handshake / "client.bin").read_bytes()[:32], (handshake / "daemon.bin").read_bytes()[:40]
+    return recording("long", client + numbers(13) * calls, daemon + numbers(LAST, 1) * calls)
 
 
 def progress_on_a_terminal_only():

@@ -1,0 +1,214 @@
+//! Streams that a call passes to an end: cut at any byte before it, they are refused by 1, and bytes behind it change nothing.
+use crate::judge::{judge, Verdict};
+use crate::lent::Lent;
+use crate::limit::row;
+use crate::ours::{ask_at, calls, takes_place, Said, Success, PLACES};
+use crate::requests::by_threads;
+use crate::tally::Tally;
+use lintelow::raw;
+use oracle::answer::{answer, Answer};
+use oracle::dice::Dice;
+use oracle::generate;
+use oracle::request::Request;
+use std::collections::BTreeSet;
+use std::sync::Mutex;
+use std::time::Instant;
+
+const COLUMNS: [&str; 4] = ["whole", "cut short", "same", "DIFFERENT"];
+const WHOLE: usize = 0;
+const DIFFERENT: usize = 3;
+
+const CUT_SHORT: u64 = 1;
+
+// Bytes that are added, at most.
+const TAIL: usize = 40;
+
+/// What is due once a stream is changed.
+enum Due<'w> {
+    /// The refusal names the stream that is cut: 1 for the daemon's stream of a handshake, else 0.
+    CutShort(u64),
+    Same(&'w Success),
+}
+
+impl Due<'_> {
+    fn column(&self) -> usize {
+        match self {
+            Due::CutShort(_) => 1,
+            Due::Same(_) => 2,
+        }
+    }
+
+    fn is_met(&self, verdict: Verdict, ours: &Said) -> bool {
+        match (self, &ours.answer) {
+            (Due::CutShort(stream), Err(r)) => verdict == Verdict::Refused && (r.number, r.stream) == (CUT_SHORT, *stream),
+            (Due::Same(whole), Ok(a)) => verdict == Verdict::Same && a == *whole,
+            _ => false,
+        }
+    }
+}
+
+/// A request whose streams are changed.
+struct Changed<'l> {
+    index: usize,
+    q: Request,
+    at: usize,
+    /// Bytes before the stream: fewer than the place where the cut is below that.
+    before: usize,
+    lent: &'l mut Lent,
+    tally: &'l mut Tally,
+}
+
+impl Changed<'_> {
+    fn stream(&mut self, which: u64) -> &mut Vec<u8> {
+        if which == 0 {
+            &mut self.q.a
+        } else {
+            &mut self.q.b
+        }
+    }
+
+    fn both(&mut self) -> (Answer, Said) {
+        // nix-wire cannot be asked behind the end of a stream
+        let rust = if self.before < self.at { Answer::No } else { answer(&self.q) };
+        (rust, ask_at(&self.q, self.at, self.before, self.lent))
+    }
+
+    fn differs(&mut self, rust: Answer, ours: Said) {
+        self.tally.count(self.q.call, DIFFERENT);
+        let ours = format!("{ours}, at place {} with {} bytes before it", self.at, self.before);
+        self.tally.differs(self.index, &self.q, rust.to_string(), ours);
+    }
+
+    fn hold(&mut self, due: &Due) {
+        let (rust, ours) = self.both();
+        if due.is_met(judge(&self.q, &rust, &ours), &ours) {
+            self.tally.count(self.q.call, due.column());
+        } else {
+            self.differs(rust, ours);
+        }
+    }
+
+    /// The answer to the streams as they are, where both sides pass them.
+    fn whole(&mut self) -> Option<Success> {
+        let (rust, ours) = self.both();
+        match judge(&self.q, &rust, &ours) {
+            Verdict::Same => {
+                self.tally.count(self.q.call, WHOLE);
+                return ours.answer.ok();
+            }
+            // no text, or too few bytes for a number
+            Verdict::Refused => {}
+            _ => self.differs(rust, ours),
+        }
+        None
+    }
+
+    /// Nothing behind the end, then tails.
+    fn lengthen(&mut self, which: u64, end: usize, whole: &Success) {
+        let due = Due::Same(whole);
+        if self.stream(which).len() > end {
+            self.stream(which).truncate(end);
+            self.hold(&due);
+        }
+        let again = [self.stream(which), &[1; TAIL][..]].concat();
+        for tail in [vec![0; TAIL], vec![0xff; TAIL], Dice::new(self.index as u64).bytes(TAIL), again] {
+            for n in 1..=TAIL {
+                self.stream(which).extend(&tail[..n]);
+                self.hold(&due);
+                self.stream(which).truncate(end);
+            }
+        }
+    }
+
+    /// At every byte, also of those before the place.
+    fn cut(&mut self, which: u64) {
+        let due = Due::CutShort(which);
+        while self.stream(which).pop().is_some() {
+            self.hold(&due);
+        }
+        while self.before > 0 {
+            self.before -= 1;
+            self.hold(&due);
+        }
+        self.before = self.at;
+    }
+
+    fn each_stream(&mut self, whole: &Success) {
+        let streams: &[u64] = match self.q.call {
+            7 => &[0, 1],
+            8 => &[1],
+            _ => &[0],
+        };
+        for &which in streams {
+            let end = if which == 0 { whole.end } else { whole.end2 };
+            self.lengthen(which, end, whole);
+            let uncut = self.stream(which).clone();
+            self.cut(which);
+            *self.stream(which) = uncut;
+        }
+    }
+}
+
+/// A call, and operation and version, both versions or the place.
+type Tried = (u64, [u64; 4]);
+
+fn tried(q: &Request, at: usize, whole: &Success) -> Tried {
+    let what = match q.call {
+        1..=4 => [q.operation, q.major, q.minor, 0],
+        7 | 8 => [q.major, q.minor, whole.numbers[2], whole.numbers[3]],
+        _ => [at as u64, 0, 0, 0],
+    };
+    (q.call, what)
+}
+
+fn one(index: usize, q: Request, lent: &mut Lent, tally: &mut Tally) -> Option<Tried> {
+    let at = if takes_place(q.call) { index % PLACES } else { 0 };
+    let mut changed = Changed { index, q, at, before: at, lent, tally };
+    let whole = changed.whole()?;
+    changed.each_stream(&whole);
+    Some(tried(&changed.q, at, &whole))
+}
+
+// 1.9 to 1.38, 0.255, 2.0 and 65535.255.
+const VERSIONS: usize = 33;
+
+// Those that the library knows.
+fn operations() -> usize {
+    (0..1000).filter(|&op| raw::op_has_client_framed_data(op).is_ok()).count()
+}
+
+fn to_be_tried(call: u64) -> usize {
+    match call {
+        1..=4 => operations() * VERSIONS,
+        7 | 8 => VERSIONS * VERSIONS,
+        9..=17 => PLACES,
+        _ => 0,
+    }
+}
+
+/// A stream that nobody passes is not cut: that must not look like success.
+fn are_all_tried(all: &BTreeSet<Tried>) -> bool {
+    let mut are_all = true;
+    for (call, name) in calls() {
+        let (there, due) = (all.iter().filter(|t| t.0 == call).count(), to_be_tried(call));
+        if there != due {
+            println!("native: {name} passed streams of {there} operations and versions, pairs of versions or places, not of {due}");
+            are_all = false;
+        }
+    }
+    are_all
+}
+
+/// Is there no difference, and was all tried?
+pub fn run(seed: u64, threads: usize) -> bool {
+    let began = Instant::now();
+    let rows = [3, 4, 14, 15].into_iter().flat_map(|call| [256, 257].map(|length| row(call, length, length, 0)));
+    let all = Mutex::new(BTreeSet::new());
+    let tally = by_threads(threads, generate::whole(seed).into_iter().chain(rows), &COLUMNS, |index, q, lent, tally| {
+        let tried = one(index, q, lent, tally);
+        all.lock().expect("no thread fails while it adds one").extend(tried);
+    });
+    tally.print();
+    let are_all = are_all_tried(&all.into_inner().expect("no thread fails while it adds one"));
+    tally.conclude(&format!("with streams whole, cut and lengthened, of seed {seed}"), began) && are_all
+}
