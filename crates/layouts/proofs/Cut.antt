@@ -12,14 +12,16 @@ use native.Mathlib.Omega.{arith}
 use native.Mathlib.Decide.{decLe}
 use borrow.Author.Tests.{leb-true, le-leb, lt-leb}
 use Rattle.layouts.specs.declared.Record.{Record}
+use Rattle.layouts.specs.declared.Refusal.{Refusal}
+use Rattle.layouts.specs.Refusal.{refusal, refusedBy}
 use Rattle.layouts.specs.Primitive.{pick, littleAt, numberAt, cutShort, badText, Version, Result, ok, refused, onward}
 use Rattle.layouts.specs.Shape.{Target, Role, What, num, str, set, pairs, framed, maybe, typed, Tree, ask, say, frames, layout, asNumber, asCount, passed, kept}
 use Rattle.layouts.specs.Pieces.{Pieces, fault, afterNum, afterText, afterChunk, chunks, run, skipOf, totalOf}
 use Rattle.layouts.specs.Record.{blank, noted, withNumber, entered, withPayload}
-use Rattle.layouts.specs.Judge.{notText, textTaken, halfTaken, chunkTaken, Ended, judgeOf, payloadOf}
+use Rattle.layouts.specs.Judge.{notText, textTaken, halfTaken, chunkTaken, Ended, judgeOf, payloadOf, lentAfter}
 use Rattle.layouts.specs.Operations.{Kinds}
 use Rattle.layouts.specs.Calls.{Answer, answered, argumentsKinds, skippedKinds, replyKinds, argumentsTree, skippedTree, replyTree, readOf, readOpArgs, readDaemonResult, skipDaemonResult, skipOpArgs, field, readField, readNumber, readU32, skipString, readString, readStringSet, skipStringSet, readFramed, skipFramed}
-use Rattle.layouts.specs.Cut.{CutBefore, SameTo, RefusedAsCut, WholeOnly}
+use Rattle.layouts.specs.Cut.{CutBefore, SameTo, CutOrLonger, RefusedAsCut, WholeOnly}
 use Rattle.layouts.proofs.Little.{little-same, number-same}
 use Rattle.layouts.proofs.Views.{num-short, text-short, chunk-short}
 use Rattle.layouts.proofs.Placed.{never-both, Placed, on-number, on-text, on-half, on-chunk, on-end, on-fault, run-placed, ends, placed-to}
@@ -29,7 +31,7 @@ use Rattle.layouts.proofs.Success.{string-within}
 use Rattle.layouts.proofs.Follow.{Cut, cut-here, cut-half, cut-number, cut-text, cut-chunk, follow-run}
 
 -- ---- what is cut is refused by 1
-cut-skip : {p q : Pieces} → Cut p q → RefusedAsCut 0 (skipOf q)
+cut-skip : {p q : Pieces} → Cut p q → RefusedAsCut refusedBy 0 (skipOf q)
 unfolding skipOf
 cut-skip (cut-here place) = (place, refl)
 cut-skip (cut-half {m} {start} {len}) = (start + len, refl)
@@ -45,7 +47,7 @@ taken k (no-room w l) e = absurd (never-both e)
 taken k (goes-on b g) e = (refl, b, e)
 
 module _ (s : List ℕ) (slots room : ℕ) (x : Ended) where
-  cut-judge : {p q : Pieces} → Cut p q → (r : Record) → judgeOf s slots room r p ≡ ok x → RefusedAsCut 0 (judgeOf s slots room r q)
+  cut-judge : {p q : Pieces} → Cut p q → (r : Record) → judgeOf s slots room r p ≡ ok x → RefusedAsCut refusedBy 0 (judgeOf s slots room r q)
   unfolding judgeOf halfTaken
   cut-judge (cut-here place) r h = (place, refl)
   cut-judge (cut-half {m} {start} {len} {p}) r h =
@@ -150,7 +152,7 @@ module _ (t : Tree) (s s' : List ℕ) (at : ℕ) (h : at ≤ length s) (slots ro
         ap (λ (o : Pieces). (o, payloadOf s' o)) same ∙ ap (λ (l : List ℕ). (run t s at, l)) (payload-same s s' (x .ends) c p),
       )
 
-  pub cut-read : at ≤ length s' → CutBefore (x .ends) s s' → RefusedAsCut 0 (judgeOf s' slots room r (run t s' at))
+  pub cut-read : at ≤ length s' → CutBefore (x .ends) s s' → RefusedAsCut refusedBy 0 (judgeOf s' slots room r (run t s' at))
   cut-read l (n, g, c) =
       let w = cut-judge s slots room x (cut-run t s s' at (x .ends) h skips l (n, g, c)) r e in
       let m : length s' ≡ n = ap length c ∙ length-take-le n s (let z = ends (x .ends) (run-placed t s at h) skips in omega arith) in
@@ -181,7 +183,7 @@ module _ {t : Tree} {at : ℕ} (b : Starts t at) where
       by (yes h) = h
       by (no h) = absurd (never-both (sym (ap skipOf (starts-cut b s (omega arith))) ∙ q))
 
-  skip-cut : (s s' : List ℕ) (e : ℕ) → skipOf (run t s at) ≡ ok e → CutBefore e s s' → Dec (at ≤ length s') → RefusedAsCut 0 (skipOf (run t s' at))
+  skip-cut : (s s' : List ℕ) (e : ℕ) → skipOf (run t s at) ≡ ok e → CutBefore e s s' → Dec (at ≤ length s') → RefusedAsCut refusedBy 0 (skipOf (run t s' at))
   unfolding skipOf
   skip-cut s s' e q c (yes l) = cut-skip (cut-run t s s' at e (starts-within s e q) q l c)
   skip-cut s s' e q c (no l) = (at, ap skipOf (starts-cut b s' (omega arith)))
@@ -197,7 +199,7 @@ module _ {t : Tree} {at : ℕ} (b : Starts t at) where
 
   module _ (slots room : ℕ) (r : Record) where
     read-cut : (s s' : List ℕ) (x : Ended) → judgeOf s slots room r (run t s at) ≡ ok x → CutBefore (x .ends) s s' → Dec (at ≤ length s')
-        → RefusedAsCut 0 (judgeOf s' slots room r (run t s' at))
+        → RefusedAsCut refusedBy 0 (judgeOf s' slots room r (run t s' at))
     unfolding judgeOf
     read-cut s s' x e c (yes l) = cut-read t s s' at (starts-within s (x .ends) (judge-read s slots room r (run t s at) x e .skips)) slots room r x e l c
     read-cut s s' x e c (no l) = (at, ap (judgeOf s' slots room r) (starts-cut b s' (omega arith)))
@@ -232,6 +234,36 @@ module _ {A B K : Type 0} {said : List ℕ → Result A} {ends : A → ℕ} {str
             let z = w .longer s s' (o .0) (o .1) (rw (same (keeps s) (o .0) y (o .2)) at c) in
             (ap (λ (r : Result A). onward r (f (keeps s'))) (z .0) ∙ ap (λ (k : K). f k (o .0)) (z .1) ∙ o .2, z .1);
       }
+
+-- ---- a call that is made on s and again on s', with the same room: what is said, and what the room holds
+module _ {A K : Type 0} {said : List ℕ → Result A} {ends : A → ℕ} {stream : ℕ} {keeps : List ℕ → K} (w : WholeOnly said ends stream keeps) (s s' : List ℕ) (x : A)
+    (e : said s ≡ ok x) where
+  pub cut-lent : CutBefore (ends x) s s' → RefusedAsCut refusedBy stream (said s') × ((new lent : List ℕ) → lentAfter (said s') new lent ≡ lent)
+  cut-lent c = let z = w .cut s s' x e c in (z, λ new lent. ap (λ (o : Result A). lentAfter o new lent) (z .1))
+
+  pub longer-lent : SameTo (ends x) s s'
+      → (said s' ≡ said s) × ((f : K → List ℕ) (lent : List ℕ) → lentAfter (said s') (f (keeps s')) lent ≡ lentAfter (said s) (f (keeps s)) lent)
+  longer-lent c =
+      let z = w .longer s s' x e c in
+      let same = z .0 ∙ sym e in
+      (same, λ f lent. ap (λ (o : Result A). lentAfter o (f (keeps s')) lent) same ∙ ap (λ (k : K). lentAfter (said s) (f k) lent) (z .1))
+
+  -- r and r' are answers that mean what is said, and no other answer does
+  module _ {R : Type 0} {means : R → Result A} (told : (r r' : R) → means r ≡ means r' → r ≡ r') (refuses : Refusal → R)
+      (means-refused : (y : Refusal) → means (refuses y) ≡ refusedBy y) (r r' : R) (p : means r ≡ said s) (q : means r' ≡ said s') where
+    as-cut : RefusedAsCut refusedBy stream (said s') → RefusedAsCut refuses stream r'
+    as-cut (place, c) = (place, told r' (refuses (refusal cutShort place stream)) (q ∙ c ∙ sym (means-refused (refusal cutShort place stream))))
+
+    pub told-whole : CutOrLonger (ends x) s s' (RefusedAsCut refuses stream r') (r' ≡ r)
+    told-whole = (λ c. as-cut (cut-lent c .0), λ c. told r' r (q ∙ longer-lent c .0 ∙ sym p))
+
+    -- new is what goes into the room
+    pub told-room : (new : K → List ℕ) (lent lent' out out' : List ℕ) → lent' ≡ lent → out ≡ lentAfter (said s) (new (keeps s)) lent → out' ≡ lentAfter (said s') (new (keeps s')) lent
+        → CutOrLonger (ends x) s s' (RefusedAsCut refuses stream r' × (out' ≡ lent')) ((r' ≡ r) × (out' ≡ out))
+    told-room new lent lent' out out' same f f' = (
+      λ c. (told-whole .0 c, f' ∙ cut-lent c .1 _ lent ∙ sym same),
+      λ c. (told-whole .1 c, f' ∙ longer-lent c .1 new lent ∙ sym f),
+    )
 
 -- ---- replies and arguments
 module _ (t : Tree) (v : Version) (k : Kinds) (slots room : ℕ) where

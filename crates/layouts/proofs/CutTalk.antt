@@ -9,6 +9,7 @@ use native.Mathlib.Omega.{arith}
 use native.Mathlib.Decide.{decLe}
 use Rattle.layouts.specs.declared.Record.{Record}
 use Rattle.layouts.specs.Primitive.{pick, Version, fromWire, cutShort, Result, ok, refused, onward}
+use Rattle.layouts.specs.Refusal.{refusedBy}
 use Rattle.layouts.specs.Shape.{Tree}
 use Rattle.layouts.specs.Pieces.{Pieces, run, skipOf}
 use Rattle.layouts.specs.Record.{blank, recordOf}
@@ -78,8 +79,8 @@ module _ (d : Bool) (s s' u' : List ℕ) (slots : ℕ) (t : Tree) (a : ℕ) (r :
 
   -- the stream is cut behind it, and what follows is refused; or in it
   turn-cut : (n : ℕ) → now ≡ take n s → n ≤ length s → a ≤ n
-      → (x .ends ≤ n → RefusedAsCut (streamOf d) (judgeHeard s' u' slots (recordOf r (run t s a)) (next (run t s a) (x .ends)))) → Dec (x .ends ≤ n)
-      → RefusedAsCut (streamOf d) (judgeHeard s' u' slots r (turned (run t now a)))
+      → (x .ends ≤ n → RefusedAsCut refusedBy (streamOf d) (judgeHeard s' u' slots (recordOf r (run t s a)) (next (run t s a) (x .ends)))) → Dec (x .ends ≤ n)
+      → RefusedAsCut refusedBy (streamOf d) (judgeHeard s' u' slots r (turned (run t now a)))
   turn-cut n c m l f (yes g) =
       let w = f g in
       (w .0, turn-longer (ap (take (x .ends)) c ∙ take-take (x .ends) n s g) .1 ∙ w .1)
@@ -141,7 +142,7 @@ module _ (slots : ℕ) (y : Both) where
 
     -- ---- the client's stream is cut
     client-cut : (s' : List ℕ) (n : ℕ) → s' ≡ take n s → n ≤ length s → n < y .clientEnds → (x : Talk) (a b : ℕ) (r : Record) → a ≤ n → b ≤ length u
-        → judgeHeard s u slots r (hear x s u a b r) ≡ ok y → RefusedAsCut 0 (judgeHeard s' u slots r (hear x s' u a b r))
+        → judgeHeard s u slots r (hear x s u a b r) ≡ ok y → RefusedAsCut refusedBy 0 (judgeHeard s' u slots r (hear x s' u a b r))
     unfolding hear judgeHeard
     client-cut s' n c m o (turn false t k) a b r h g j =
         let p = run t s a in
@@ -163,7 +164,7 @@ module _ (slots : ℕ) (y : Both) where
 
     -- ---- the daemon's is
     daemon-cut : (u' : List ℕ) (n : ℕ) → u' ≡ take n u → n ≤ length u → n < y .daemonEnds → (x : Talk) (a b : ℕ) (r : Record) → a ≤ length s → b ≤ n
-        → judgeHeard s u slots r (hear x s u a b r) ≡ ok y → RefusedAsCut 1 (judgeHeard s u' slots r (hear x s u' a b r))
+        → judgeHeard s u slots r (hear x s u a b r) ≡ ok y → RefusedAsCut refusedBy 1 (judgeHeard s u' slots r (hear x s u' a b r))
     unfolding hear judgeHeard
     daemon-cut u' n c m o (turn true t k) a b r h g j =
         let p = run t u b in

@@ -8,20 +8,18 @@ use lib.ListN.{length}
 use contract.Lifetimes.{Lfts}
 use borrow.Fn.Kinds.{Dens, endedOf}
 use denote.Triple.Clauses.{AtExit}
-use Rattle.layouts.specs.Primitive.{Version, cutShort, Result, ok, refused}
-use Rattle.layouts.specs.Refusal.{plain}
+use Rattle.layouts.specs.Primitive.{Version, Result, ok, refused}
 use Rattle.layouts.specs.Shape.{Tree}
 use Rattle.layouts.specs.Pieces.{Pieces, run}
 use Rattle.layouts.specs.Judge.{entriesOf, payloadOf}
 use Rattle.layouts.specs.Calls.{Answer, argumentsTree, skippedTree, replyTree, readOpArgs, readDaemonResult, skipOpArgs, skipDaemonResult}
-use Rattle.layouts.specs.Cut.{CutOrLonger, WholeOnly}
-use Rattle.layouts.proofs.Cut.{seen, read-reply-whole, skip-reply-whole, read-arguments-whole, skip-arguments-whole}
+use Rattle.layouts.specs.Cut.{CutOrLonger, RefusedAsCut, WholeOnly}
+use Rattle.layouts.proofs.Cut.{seen, told-whole, read-reply-whole, skip-reply-whole, read-arguments-whole, skip-arguments-whole}
 use Rattle.walk_judge.specs.declared.Answer as C
 use Rattle.walk_judge.specs.declared.Outcome.the-variants.{Fine, Refused}
 use Rattle.walk_judge.specs.Judged.{answerAs}
-use Rattle.walk_judge.specs.Cut.{AnsweredAsCut}
 use Rattle.walk_judge.proofs.Answers.{never}
-use Rattle.walk_judge.proofs.Cut.{answer-cut, answer-longer}
+use Rattle.walk_judge.proofs.Cut.{answered-room}
 use Rattle.walk_rooms.specs.Rooms.{LentRead, lentRead}
 use Rattle.walk_strings.specs.declared.Passed.{Passed}
 use Rattle.walk_strings.specs.declared.Passed.the-variants as S
@@ -45,7 +43,7 @@ module _ (κs : Lfts 3) (a : Dens κs read-daemon-result-kinds.ps) (r : C.Answer
   abbrev ReadWhole : Type 0
   ReadWhole =
       CutOrLonger (r .ends) (streamOf a) (streamOf a′)
-      (AnsweredAsCut 0 r′ × ((entriesAfter x′ ≡ entriesAt a′) × (payloadAfter x′ ≡ payloadAt a′)))
+      (RefusedAsCut Refused 0 (r′ .outcome) × ((entriesAfter x′ ≡ entriesAt a′) × (payloadAfter x′ ≡ payloadAt a′)))
       ((r′ ≡ r) × ((entriesAfter x′ ≡ entriesAfter x) × (payloadAfter x′ ≡ payloadAfter x)))
 
   -- both readers: said by operation, version, stream and room, of the pieces of a tree
@@ -66,16 +64,10 @@ module _ (κs : Lfts 3) (a : Dens κs read-daemon-result-kinds.ps) (r : C.Answer
         → Contract r′ (entriesAfter x′) (payloadAfter x′) (readAs (opOf a′) (versionOf a′) (streamOf a′) (entriesAt a′) (payloadAt a′)) → ReadWhole
     read-whole p q =
         let u = w (opOf a) (versionOf a) (length (entriesAt a) / 2) (length (payloadAt a)) in
-        let answer = q .0 ∙ ap (λ (c : LentRead C.Answer). c .answer) same-read in
-        let entries = q .1 .0 ∙ ap (λ (c : LentRead C.Answer). c .entries) same-read in
-        let payload = q .1 .1 ∙ ap (λ (c : LentRead C.Answer). c .payload) same-read in (
-          λ c.
-              let z = answer-cut u (streamOf a) (streamOf a′) r r′ (p .0) fine answer c in
-              (z .0, (entries ∙ z .1 _ (entriesAt a) ∙ sym es, payload ∙ z .1 _ (payloadAt a) ∙ sym ps)),
-          λ c.
-              let z = answer-longer u (streamOf a) (streamOf a′) r r′ (p .0) fine answer c in
-              (z .0, (entries ∙ z .1 (λ y. entriesOf (y .0)) (entriesAt a) ∙ sym (p .1 .0), payload ∙ z .1 (λ y. y .1) (payloadAt a) ∙ sym (p .1 .1))),
-        )
+        let room = answered-room u (streamOf a) (streamOf a′) r r′ (p .0) fine (q .0 ∙ ap (λ (c : LentRead C.Answer). c .answer) same-read) in
+        let entries = room (λ y. entriesOf (y .0)) (entriesAt a) (entriesAt a′) _ _ es (p .1 .0) (q .1 .0 ∙ ap (λ (c : LentRead C.Answer). c .entries) same-read) in
+        let payload = room (λ y. y .1) (payloadAt a) (payloadAt a′) _ _ ps (p .1 .1) (q .1 .1 ∙ ap (λ (c : LentRead C.Answer). c .payload) same-read) in
+        (λ c. (entries .0 c .0, (entries .0 c .1, payload .0 c .1)), λ c. (entries .1 c .0, (entries .1 c .1, payload .1 c .1)))
 
   pub read-daemon-result-whole : read-daemon-result.Post κs a r x → read-daemon-result.Post κs′ a′ r′ x′ → ReadWhole
   read-daemon-result-whole p q = read-whole readDaemonResult replyTree read-reply-whole p q
@@ -84,33 +76,23 @@ module _ (κs : Lfts 3) (a : Dens κs read-daemon-result-kinds.ps) (r : C.Answer
   read-op-args-whole p q = read-whole readOpArgs argumentsTree read-arguments-whole p q
 
 -- ---- skipping a reply
-abbrev PassedAsCut : Passed → Type 0
-PassedAsCut r = (place : ℕ) × (r ≡ S.Refused (plain cutShort place))
-
 pub skip-daemon-result-whole : (κs : Lfts 1) (a : Dens κs skip-daemon-result-kinds.ps) (r : Passed) (x : AtExit (endedOf 1 skip-daemon-result-kinds.ps skip-daemon-result-kinds.r) κs)
     → skip-daemon-result.Post κs a r x
     → (κs′ : Lfts 1) (a′ : Dens κs′ skip-daemon-result-kinds.ps) (r′ : Passed) (x′ : AtExit (endedOf 1 skip-daemon-result-kinds.ps skip-daemon-result-kinds.r) κs′)
     → skip-daemon-result.Post κs′ a′ r′ x′ → opOf a′ ≡ opOf a → versionOf a′ ≡ versionOf a → (ends : ℕ) → r ≡ S.Past ends
-    → CutOrLonger ends (streamOf a) (streamOf a′) (PassedAsCut r′) (r′ ≡ r)
+    → CutOrLonger ends (streamOf a) (streamOf a′) (RefusedAsCut S.Refused 0 r′) (r′ ≡ r)
 skip-daemon-result-whole κs a r x p κs′ a′ r′ x′ q o v ends passed =
-    let w = skip-reply-whole (opOf a) (versionOf a) in
-    let e = sym p ∙ ap skipped passed in
-    let q′ = q ∙ same-as (λ op u. skipDaemonResult op u (streamOf a′)) o v in (
-      λ c. let z = w .cut (streamOf a) (streamOf a′) ends e c in (z .0, skipped-told r′ (S.Refused (plain cutShort (z .0))) (q′ ∙ z .1)),
-      λ c. skipped-told r′ r (q′ ∙ w .longer (streamOf a) (streamOf a′) ends e c .0 ∙ sym (ap skipped passed)),
-    )
+    told-whole (skip-reply-whole (opOf a) (versionOf a)) (streamOf a) (streamOf a′) ends (sym p ∙ ap skipped passed) skipped-told S.Refused (λ y. refl) r r′ p
+    (q ∙ same-as (λ op u. skipDaemonResult op u (streamOf a′)) o v)
 
 -- ---- skipping arguments
-abbrev ArgumentsAsCut : Arguments → Type 0
-ArgumentsAsCut r = (place : ℕ) × (r .outcome ≡ Refused (plain cutShort place))
-
 arguments-fine : (r : Arguments) (o : Result Answer) (es : List ℕ) → r ≡ argumentsAs o es → r .outcome ≡ Fine → (y : Answer) × (o ≡ ok y) × (y .ends ≡ r .ends)
 arguments-fine r (ok y) es e f = (y, refl, sym (ap (λ (b : Arguments). b .ends) e))
 arguments-fine r (refused which place stream) es e f = never (r .outcome) _ f (ap (λ (b : Arguments). b .outcome) e)
 
 pub skip-op-args-whole : (κs : Lfts 1) (a : Dens κs skip-op-args-kinds.ps) (r : Arguments) (x : AtExit (endedOf 1 skip-op-args-kinds.ps skip-op-args-kinds.r) κs) → skip-op-args.Post κs a r x
     → (κs′ : Lfts 1) (a′ : Dens κs′ skip-op-args-kinds.ps) (r′ : Arguments) (x′ : AtExit (endedOf 1 skip-op-args-kinds.ps skip-op-args-kinds.r) κs′) → skip-op-args.Post κs′ a′ r′ x′
-    → opOf a′ ≡ opOf a → versionOf a′ ≡ versionOf a → r .outcome ≡ Fine → CutOrLonger (r .ends) (streamOf a) (streamOf a′) (ArgumentsAsCut r′) (r′ ≡ r)
+    → opOf a′ ≡ opOf a → versionOf a′ ≡ versionOf a → r .outcome ≡ Fine → CutOrLonger (r .ends) (streamOf a) (streamOf a′) (RefusedAsCut Refused 0 (r′ .outcome)) (r′ ≡ r)
 skip-op-args-whole κs a r x p κs′ a′ r′ x′ q o v fine =
     let w = skip-arguments-whole (opOf a) (versionOf a) in
     let s′ = streamOf a′ in

@@ -3,23 +3,20 @@
 -- theorem is about `Post`, the contract as Rattle reads it off the source. There is none of `peek_u64`, which passes nothing.
 use Prim.Native.Nat.{ℕ, _+_, _/_}
 use mathlib.Core.Path.{_≡_, refl, sym, _∙_, ap}
-use mathlib.Core.List.{List}
+use mathlib.Core.List.{List, []}
 use lib.ListN.{length}
 use contract.Lifetimes.{Lfts}
 use borrow.Fn.Kinds.{Dens, endedOf}
 use denote.Triple.Clauses.{AtExit}
 use denote.Ref.{now}
-use Rattle.layouts.specs.Primitive.{numberAt, cutShort, Result, ok, onward}
-use Rattle.layouts.specs.Refusal.{plain}
-use Rattle.layouts.specs.Pieces.{Pieces}
-use Rattle.layouts.specs.Judge.{Ended, entriesOf, lentAfter}
-use Rattle.layouts.specs.Calls.{readNumber, readU32, skipString, readString, readStringSet, skipStringSet, readFramed, skipFramed}
-use Rattle.layouts.specs.Cut.{CutOrLonger, WholeOnly}
+use Rattle.layouts.specs.Primitive.{numberAt, Result, ok, onward}
+use Rattle.layouts.specs.Judge.{Ended, entriesOf}
+use Rattle.layouts.specs.Calls.{readNumber, readU32, skipString, readString, skipStringSet, readFramed, skipFramed}
+use Rattle.layouts.specs.Cut.{CutOrLonger, RefusedAsCut, WholeOnly}
 use Rattle.layouts.proofs.Cut as L
 use Rattle.pieces.specs.Pieces.{Span, span}
-use Rattle.walk_rooms.specs.Rooms.{LentRead}
+use Rattle.walk_rooms.specs.Rooms.{LentRead, lentRead}
 use Rattle.wire.specs.Answers.{numberRead, countRead, totalRead, skippedTo, spanned, readBytes, readText, setEntries, framedPayload, setRead}
-use Rattle.wire.specs.Cut.{ReadAsCut, SpannedAsCut, SkippedAsCut}
 use Rattle.wire.specs.declared.Cursor.{Cursor}
 use Rattle.wire.specs.declared.Read.{Read}
 use Rattle.wire.specs.declared.Read.the-variants as R
@@ -47,16 +44,13 @@ module _ (κs : Lfts 1) (a : Dens κs read-u64-kinds.ps) (r : Read) (x : AtExit 
     (κs′ : Lfts 1) (a′ : Dens κs′ read-u64-kinds.ps) (r′ : Read) (x′ : AtExit (endedOf 1 read-u64-kinds.ps read-u64-kinds.r) κs′)
     (place : a′ .0 ≡ a .0) (value : ℕ) (next : Cursor) (passed : r ≡ R.Value value next) where
   abbrev NumberWhole : Type 0
-  NumberWhole = CutOrLonger (next .at) (now (a .1 .0)) (now (a′ .1 .0)) (ReadAsCut r′) (r′ ≡ r)
+  NumberWhole = CutOrLonger (next .at) (now (a .1 .0)) (now (a′ .1 .0)) (RefusedAsCut R.Refused 0 r′) (r′ ≡ r)
 
   number-whole : {K : Type 0} {keeps : List ℕ → K} (said : List ℕ → ℕ → Result Ended) → WholeOnly (λ s. said s (a .0 .at)) (λ y. y .ends) 0 keeps
       → numberRead r ≡ said (now (a .1 .0)) (a .0 .at) → numberRead r′ ≡ said (now (a′ .1 .0)) (a′ .0 .at) → NumberWhole
   number-whole said w p q =
-      let e = sym p ∙ ap numberRead passed in
-      let q′ = q ∙ ap (λ (c : Cursor). said (now (a′ .1 .0)) (c .at)) place in (
-        λ c. let z = w .cut (now (a .1 .0)) (now (a′ .1 .0)) _ e c in (z .0, number-told r′ (R.Refused (plain cutShort (z .0))) (q′ ∙ z .1) refl),
-        λ c. number-told r′ r (q′ ∙ w .longer (now (a .1 .0)) (now (a′ .1 .0)) _ e c .0) (ap numberRead passed),
-      )
+      L.told-whole w (now (a .1 .0)) (now (a′ .1 .0)) _ (sym p ∙ ap numberRead passed) (λ y z e. number-told y z e refl) R.Refused (λ y. refl) r r′ p
+      (q ∙ ap (λ (c : Cursor). said (now (a′ .1 .0)) (c .at)) place)
 
   pub read-u64-whole : read-u64.Post κs a r x → read-u64.Post κs′ a′ r′ x′ → NumberWhole
   read-u64-whole p q = number-whole readNumber (L.read-number-whole (a .0 .at)) p q
@@ -89,16 +83,13 @@ module _ (κs : Lfts 1) (a : Dens κs read-bytes-kinds.ps) (r : Spanned) (x : At
     (κs′ : Lfts 1) (a′ : Dens κs′ read-bytes-kinds.ps) (r′ : Spanned) (x′ : AtExit (endedOf 1 read-bytes-kinds.ps read-bytes-kinds.r) κs′)
     (place : a′ .0 ≡ a .0) (start len : ℕ) (next : Cursor) (passed : r ≡ S.Contents start len next) where
   abbrev SpanWhole : Type 0
-  SpanWhole = CutOrLonger (next .at) (now (a .1 .0)) (now (a′ .1 .0)) (SpannedAsCut r′) (r′ ≡ r)
+  SpanWhole = CutOrLonger (next .at) (now (a .1 .0)) (now (a′ .1 .0)) (RefusedAsCut S.Refused 0 r′) (r′ ≡ r)
 
   spanned-whole : {K : Type 0} {keeps : List ℕ → K} (said : List ℕ → ℕ → Result Span) → WholeOnly (λ s. said s (a .0 .at)) endOf 0 keeps
       → spanned r ≡ said (now (a .1 .0)) (a .0 .at) → spanned r′ ≡ said (now (a′ .1 .0)) (a′ .0 .at) → SpanWhole
   spanned-whole said w p q =
-      let e = sym p ∙ ap spanned passed in
-      let q′ = q ∙ ap (λ (c : Cursor). said (now (a′ .1 .0)) (c .at)) place in (
-        λ c. let z = w .cut (now (a .1 .0)) (now (a′ .1 .0)) _ e c in (z .0, spanned-told r′ (S.Refused (plain cutShort (z .0))) (q′ ∙ z .1) refl),
-        λ c. spanned-told r′ r (q′ ∙ w .longer (now (a .1 .0)) (now (a′ .1 .0)) _ e c .0) (ap spanned passed),
-      )
+      L.told-whole w (now (a .1 .0)) (now (a′ .1 .0)) _ (sym p ∙ ap spanned passed) (λ y z e. spanned-told y z e refl) S.Refused (λ y. refl) r r′ p
+      (q ∙ ap (λ (c : Cursor). said (now (a′ .1 .0)) (c .at)) place)
 
   pub read-bytes-whole : read-bytes.Post κs a r x → read-bytes.Post κs′ a′ r′ x′ → SpanWhole
   read-bytes-whole p q = spanned-whole readBytes (bytes-whole (a .0 .at)) (p .0) (q .0)
@@ -108,14 +99,10 @@ module _ (κs : Lfts 1) (a : Dens κs read-bytes-kinds.ps) (r : Spanned) (x : At
 
 pub skip-string-whole : (κs : Lfts 1) (a : Dens κs skip-string-kinds.ps) (r : Skipped) (x : AtExit (endedOf 1 skip-string-kinds.ps skip-string-kinds.r) κs) → skip-string.Post κs a r x
     → (κs′ : Lfts 1) (a′ : Dens κs′ skip-string-kinds.ps) (r′ : Skipped) (x′ : AtExit (endedOf 1 skip-string-kinds.ps skip-string-kinds.r) κs′) → skip-string.Post κs′ a′ r′ x′
-    → a′ .0 ≡ a .0 → (next : Cursor) → r ≡ P.Past next → CutOrLonger (next .at) (now (a .1 .0)) (now (a′ .1 .0)) (SkippedAsCut r′) (r′ ≡ r)
+    → a′ .0 ≡ a .0 → (next : Cursor) → r ≡ P.Past next → CutOrLonger (next .at) (now (a .1 .0)) (now (a′ .1 .0)) (RefusedAsCut P.Refused 0 r′) (r′ ≡ r)
 skip-string-whole κs a r x p κs′ a′ r′ x′ q place next passed =
-    let w = L.skip-string-whole (a .0 .at) in
-    let e = sym p ∙ ap skippedTo passed in
-    let q′ = q ∙ ap (λ (c : Cursor). skipString (now (a′ .1 .0)) (c .at)) place in (
-      λ c. let z = w .cut (now (a .1 .0)) (now (a′ .1 .0)) _ e c in (z .0, skipped-told r′ (P.Refused (plain cutShort (z .0))) (q′ ∙ z .1) refl),
-      λ c. skipped-told r′ r (q′ ∙ w .longer (now (a .1 .0)) (now (a′ .1 .0)) _ e c .0) (ap skippedTo passed),
-    )
+    L.told-whole (L.skip-string-whole (a .0 .at)) (now (a .1 .0)) (now (a′ .1 .0)) _ (sym p ∙ ap skippedTo passed) (λ y z e. skipped-told y z e refl) P.Refused (λ y. refl) r r′ p
+    (q ∙ ap (λ (c : Cursor). skipString (now (a′ .1 .0)) (c .at)) place)
 
 -- ---- sets and framed data that are read into a room. The same room is lent
 module _ (κs : Lfts 2) (a : Dens κs read-string-set-kinds.ps) (r : Read) (x : AtExit (endedOf 2 read-string-set-kinds.ps read-string-set-kinds.r) κs)
@@ -123,50 +110,27 @@ module _ (κs : Lfts 2) (a : Dens κs read-string-set-kinds.ps) (r : Read) (x : 
     (place : a′ .0 ≡ a .0) (room : now (a′ .1 .1 .0) ≡ now (a .1 .1 .0)) (value : ℕ) (next : Cursor) (passed : r ≡ R.Value value next) where
   abbrev RoomWhole : Type 0
   RoomWhole =
-      CutOrLonger (next .at) (now (a .1 .0)) (now (a′ .1 .0)) (ReadAsCut r′ × (now (x′ .1 .1 .0) ≡ now (a′ .1 .1 .0))) ((r′ ≡ r) × (now (x′ .1 .1 .0) ≡ now (x .1 .1 .0)))
+      CutOrLonger (next .at) (now (a .1 .0)) (now (a′ .1 .0)) (RefusedAsCut R.Refused 0 r′ × (now (x′ .1 .1 .0) ≡ now (a′ .1 .1 .0))) ((r′ ≡ r) × (now (x′ .1 .1 .0) ≡ now (x .1 .1 .0)))
 
   pub read-string-set-whole : read-string-set.Post κs a r x → read-string-set.Post κs′ a′ r′ x′ → RoomWhole
   read-string-set-whole p q =
-      let s = now (a .1 .0) in
       let s′ = now (a′ .1 .0) in
       let at = a .0 .at in
       let lent = now (a .1 .1 .0) in
-      let w = L.read-set-whole at (length lent / 2) in
-      let e = sym (p .0) ∙ ap countRead passed in
       let same : setRead s′ (a′ .0 .at) (now (a′ .1 .1 .0)) ≡ setRead s′ at lent =
       ap (λ (c : Cursor). setRead s′ (c .at) (now (a′ .1 .1 .0))) place ∙ ap (setRead s′ at) room in
-      let answer = q .0 ∙ ap (λ (y : LentRead (Result Ended)). y .answer) same in
-      let filled = q .1 .0 ∙ ap (λ (y : LentRead (Result Ended)). y .entries) same in (
-        λ c.
-            let z = w .cut s s′ _ e c in
-            ((z .0, count-told r′ (R.Refused (plain cutShort (z .0))) (answer ∙ z .1) refl), filled ∙ ap (λ (o : Result Ended). lentAfter o (setEntries s′ at) lent) (z .1) ∙ sym room),
-        λ c.
-            let z = w .longer s s′ _ e c in (
-              count-told r′ r (answer ∙ z .0) (ap countRead passed),
-              filled ∙ ap (λ (o : Result Ended). lentAfter o (setEntries s′ at) lent) (z .0 ∙ sym e)
-                  ∙ ap (λ (y : Pieces × List ℕ). lentAfter (readStringSet s at (length lent / 2)) (entriesOf (y .0)) lent) (z .1) ∙ sym (p .1 .0),
-            ),
-      )
+      L.told-room (L.read-set-whole at (length lent / 2)) (now (a .1 .0)) s′ _ (sym (p .0) ∙ ap countRead passed) (λ y z e. count-told y z e refl) R.Refused (λ y. refl) r r′ (p .0)
+      (q .0 ∙ ap (λ (y : LentRead (Result Ended)). y .answer) same) (λ k. entriesOf (k .0)) lent _ _ _ room (p .1 .0)
+      (q .1 .0 ∙ ap (λ (y : LentRead (Result Ended)). y .entries) same)
 
   pub read-framed-whole : read-framed.Post κs a r x → read-framed.Post κs′ a′ r′ x′ → RoomWhole
   read-framed-whole p q =
-      let s = now (a .1 .0) in
       let s′ = now (a′ .1 .0) in
       let at = a .0 .at in
       let lent = now (a .1 .1 .0) in
-      let w = L.read-framed-whole at (length lent) in
-      let e = sym (p .0) ∙ ap totalRead passed in
-      let answer : totalRead r′ ≡ readFramed s′ at (length lent) = q .0 ∙ ap (λ (c : Cursor). readFramed s′ (c .at) (length (now (a′ .1 .1 .0)))) place ∙ ap (λ (l : List ℕ). readFramed s′ at (length l)) room in
-      let filled : now (x′ .1 .1 .0) ≡ lentAfter (readFramed s′ at (length lent)) (framedPayload s′ at) lent =
-      q .1 ∙ ap (λ (c : Cursor). lentAfter (readFramed s′ (c .at) (length (now (a′ .1 .1 .0)))) (framedPayload s′ (c .at)) (now (a′ .1 .1 .0))) place
-      ∙ ap (λ (l : List ℕ). lentAfter (readFramed s′ at (length l)) (framedPayload s′ at) l) room in (
-        λ c.
-            let z = w .cut s s′ _ e c in
-            ((z .0, total-told r′ (R.Refused (plain cutShort (z .0))) (answer ∙ z .1) refl), filled ∙ ap (λ (o : Result Ended). lentAfter o (framedPayload s′ at) lent) (z .1) ∙ sym room),
-        λ c.
-            let z = w .longer s s′ _ e c in (
-              total-told r′ r (answer ∙ z .0) (ap totalRead passed),
-              filled ∙ ap (λ (o : Result Ended). lentAfter o (framedPayload s′ at) lent) (z .0 ∙ sym e)
-                  ∙ ap (λ (y : Pieces × List ℕ). lentAfter (readFramed s at (length lent)) (y .1) lent) (z .1) ∙ sym (p .1),
-            ),
-      )
+      let framedRead : ℕ → List ℕ → LentRead (Result Ended) = λ n l. lentRead (λ o. o) (readFramed s′ n (length l)) [] (framedPayload s′ n) [] l in
+      let same : framedRead (a′ .0 .at) (now (a′ .1 .1 .0)) ≡ framedRead at lent =
+      ap (λ (c : Cursor). framedRead (c .at) (now (a′ .1 .1 .0))) place ∙ ap (framedRead at) room in
+      L.told-room (L.read-framed-whole at (length lent)) (now (a .1 .0)) s′ _ (sym (p .0) ∙ ap totalRead passed) (λ y z e. total-told y z e refl) R.Refused (λ y. refl) r r′ (p .0)
+      (q .0 ∙ ap (λ (y : LentRead (Result Ended)). y .answer) same) (λ k. k .1) lent _ _ _ room (p .1)
+      (q .1 ∙ ap (λ (y : LentRead (Result Ended)). y .payload) same)
