@@ -111,16 +111,13 @@ module _ (κs : Lfts 4) (a : Dens κs read-daemon-result-kinds.ps) (r : ℕ) (x 
     read-whole p q =
         let u = w (opOf a) (versionOf a) (length (entriesAt a) / 16) (length (payloadAt a)) in
         let m : (s : List ℕ) → Numbered (said (opOf a) (versionOf a) s (length (entriesAt a) / 16) (length (payloadAt a))) = λ s. n s (opOf a) (versionOf a) _ _ in
-        let tells : Tells (answerAs (said (opOf a) (versionOf a) (streamOf a′) (length (entriesAt a) / 16) (length (payloadAt a)))) (blockAt a) r′ (blockAt x′) = (q .0 ∙ ap (λ (c : ReadCalled). c .number) same-call, q .1 .0 ∙ ap (λ (c : ReadCalled). c .block) same-call) in
-        let entries = q .1 .1 .0 ∙ ap (λ (c : ReadCalled). c .entries) same-call in
-        let payload = q .1 .1 .1 ∙ ap (λ (c : ReadCalled). c .payload) same-call in (
-          λ c.
-              let z = exported-cut u m (λ k o. answerAs o) answer-tells (blockAt a) (streamOf a) (streamOf a′) r r′ (blockAt x) (blockAt x′) (p .0, p .1 .0) tells zero fits c in
-              (z .0, (entries ∙ z .1 _ (entriesAt a) ∙ sym es, payload ∙ z .1 _ (payloadAt a) ∙ sym ps)),
-          λ c.
-              let z = exported-longer u m (λ k o. answerAs o) answer-tells (blockAt a) (streamOf a) (streamOf a′) r r′ (blockAt x) (blockAt x′) (p .0, p .1 .0) tells zero fits c in
-              (z .0, (entries ∙ z .1 (λ y. bytesOf (entriesOf (y .0))) (entriesAt a) ∙ sym (p .1 .1 .0), payload ∙ z .1 (λ y. y .1) (payloadAt a) ∙ sym (p .1 .1 .1))),
-        )
+        let number = q .0 ∙ ap (λ (c : ReadCalled). c .number) same-call in
+        let block = q .1 .0 ∙ ap (λ (c : ReadCalled). c .block) same-call in
+        let entries = room-whole u m answerAs answer-tells (λ y. bytesOf (entriesOf (y .0))) (blockAt a) (entriesAt a) (entriesAt a′) (streamOf a) (streamOf a′) r r′ (blockAt x) (blockAt x′)
+        (entriesAt x) (entriesAt x′) (p .0, (p .1 .0, p .1 .1 .0)) (number, (block, q .1 .1 .0 ∙ ap (λ (c : ReadCalled). c .entries) same-call)) es zero fits in
+        let payload = room-whole u m answerAs answer-tells (λ y. y .1) (blockAt a) (payloadAt a) (payloadAt a′) (streamOf a) (streamOf a′) r r′ (blockAt x) (blockAt x′)
+        (payloadAt x) (payloadAt x′) (p .0, (p .1 .0, p .1 .1 .1)) (number, (block, q .1 .1 .1 ∙ ap (λ (c : ReadCalled). c .payload) same-call)) ps zero fits in
+        (λ c. (entries .0 c .0, (entries .0 c .1, payload .0 c .1)), λ c. (entries .1 c .0, (entries .1 c .1, payload .1 c .1)))
 
   pub read-daemon-result-whole : read-daemon-result.Post κs a r x → read-daemon-result.Post κs′ a′ r′ x′ → ReadWhole
   read-daemon-result-whole p q = read-whole readDaemonResult replyTree W.read-reply-whole read-reply-numbered p q
