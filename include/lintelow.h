@@ -33,7 +33,7 @@
  *
  *     1   cut short: a number, contents, padding or chunk needs more bytes than remain    start of that piece
  *     2   too long: a length above 268435456                                              the length
- *     3   bad text: a string isn't RFC 3629 text                                          its contents; of a writer the entry's index
+ *     3   bad text: a string isn't RFC 3629 text                                          the bad byte; of a writer the entry's index
  *     4   no entry room: a kept string has no slot                                        its length
  *     5   no payload room: a chunk doesn't fit in what is left                            its length
  *     6   magic of the client                                                             0
@@ -46,6 +46,9 @@
  *     13  no arguments: none are known for this operation and version                     0
  *     14  not of the shape: what the shape or version lacks isn't 0 or empty,             0
  *         or a flag is above 1
+ *
+ * The bad byte begins the string's first ill-formed sequence: the contents up to it are text, and no longer beginning of them is. The stream cut at it is
+ * refused by 1, at the contents.
  *
  * Pieces are judged in the order of the stream, and nothing is written before all are judged. */
 #ifndef LINTELOW_H

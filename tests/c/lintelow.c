@@ -262,11 +262,13 @@ static void pieces(void) {
     CALLED("skip_framed", 0, lintelow_skip_framed(s, s_len, 64, block, n));
     EXPECT("total", at(block, NUMBERS), 2);
     EXPECT("end", at(block, END), s_len);
-    s[16] = 0xff;
+    s[18] = 0xff;
     CALLED("read_bytes, bad text", 0, lintelow_read_bytes(s, s_len, 8, block, n));
     CALLED("skip_string, bad text", 0, lintelow_skip_string(s, s_len, 8, block, n));
     CALLED("read_string, bad text", 3, lintelow_read_string(s, s_len, 8, block, n));
-    EXPECT("place", at(block, PLACE), 16);
+    EXPECT("place", at(block, PLACE), 18);
+    CALLED("read_string, cut at the bad byte", 1, lintelow_read_string(s, 18, 8, block, n));
+    EXPECT("contents", at(block, PLACE), 16);
 
     CALLED("read_u64 of nothing", 1, lintelow_read_u64(NULL, 0, 0, block, n));
     CALLED("read_u32 of nothing", 1, lintelow_read_u32(NULL, 0, 0, block, n));

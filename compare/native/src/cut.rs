@@ -69,7 +69,7 @@ impl Changed<'_> {
 
     fn both(&mut self) -> (Answer, Said) {
         // nix-wire cannot be asked behind the end of a stream
-        let rust = if self.before < self.at { Answer::No } else { answer(&self.q) };
+        let rust = if self.before < self.at { Answer::No(None) } else { answer(&self.q) };
         (rust, ask_at(&self.q, self.at, self.before, self.lent))
     }
 
@@ -97,7 +97,7 @@ impl Changed<'_> {
                 return ours.answer.ok();
             }
             // no text, or too few bytes for a number
-            Verdict::Refused => {}
+            Verdict::Refused | Verdict::BadByte => {}
             _ => self.differs(rust, ours),
         }
         None

@@ -1,13 +1,17 @@
 //! Holds the two answers to a request against each other. compare/hold.py does the same with the probe's lines.
-use crate::ours::{Said, Success};
+use crate::ours::{is_daemons, Said, Success};
+use lintelow::{Entry, Refusal};
 use oracle::answer::Answer;
 use oracle::line::Line;
 use oracle::request::Request;
+use std::string::FromUtf8Error;
 
 #[derive(Clone, Copy, PartialEq, Eq)]
 pub enum Verdict {
     Same,
     Refused,
+    /// Both refuse one string, where its text ends.
+    BadByte,
     /// Short of slots or room.
     Short,
     Out,
@@ -16,7 +20,13 @@ pub enum Verdict {
 
 impl Verdict {
     /// In their order.
-    pub const NAMES: [&str; 5] = ["same", "refused", "short", "out", "DIFFERENT"];
+    pub const NAMES: [&str; 6] = ["same", "refused", "bad byte", "short", "out", "DIFFERENT"];
+}
+
+const BAD_TEXT: u64 = 3;
+
+fn reads(call: u64) -> bool {
+    matches!(call, 1..=18)
 }
 
 fn takes_slots(call: u64) -> bool {
@@ -47,17 +57,28 @@ fn shortage(q: &Request, rust: &Line) -> Vec<u64> {
     due
 }
 
-/// The strings that the entries point at, or None where one does not stand behind its length.
+/// The contents of a string, or None where they do not stand behind their length.
+fn contents(stream: &[u8], entry: Entry) -> Option<&[u8]> {
+    let before = stream.get(entry.start.checked_sub(8)?..entry.start)?;
+    let is_behind_length = before == (entry.length as u64).to_le_bytes();
+    let end = entry.start.checked_add(entry.length)?;
+    stream.get(entry.start..end).filter(|_| is_behind_length)
+}
+
+/// The strings that the entries point at.
 fn strings<'q>(q: &'q Request, a: &Success) -> Option<Vec<&'q [u8]>> {
-    let string = |(i, entry): (usize, &lintelow::Entry)| {
+    let string = |(i, &entry): (usize, &Entry)| {
         let is_client = q.call != 8 && (q.call != 7 || (i as u64) < a.counts[0]);
-        let stream = if is_client { &q.a } else { &q.b };
-        let before = stream.get(entry.start.checked_sub(8)?..entry.start)?;
-        let is_behind_length = before == (entry.length as u64).to_le_bytes();
-        let end = entry.start.checked_add(entry.length)?;
-        stream.get(entry.start..end).filter(|_| is_behind_length)
+        contents(if is_client { &q.a } else { &q.b }, entry)
     };
     a.entries.iter().enumerate().map(string).collect()
+}
+
+/// Does the string that `from_utf8` refused stand around the place, as far before it as it is text?
+fn is_bad_byte(q: &Request, r: &Refusal, bad: &FromUtf8Error) -> bool {
+    let stream = if is_daemons(q, r) { &q.b } else { &q.a };
+    let start = r.place.wrapping_sub(bad.utf8_error().valid_up_to());
+    contents(stream, Entry { start, length: bad.as_bytes().len() }) == Some(bad.as_bytes())
 }
 
 /// Where nix-wire answers a text, ours is a kind and a number.
@@ -101,8 +122,18 @@ pub fn judge(q: &Request, rust: &Answer, ours: &Said) -> Verdict {
     }
     match rust {
         Answer::Out => Verdict::Out,
-        Answer::No if ours.answer.is_err() => Verdict::Refused,
+        Answer::No(bad) => match (&ours.answer, bad) {
+            (Err(r), Some(bad)) if r.number == BAD_TEXT && reads(q.call) => {
+                if is_bad_byte(q, r, bad) {
+                    Verdict::BadByte
+                } else {
+                    Verdict::Different
+                }
+            }
+            (Err(_), _) => Verdict::Refused,
+            (Ok(_), _) => Verdict::Different,
+        },
         Answer::Ok(line) => against(q, line, ours),
-        _ => Verdict::Different,
+        Answer::Panic => Verdict::Different,
     }
 }

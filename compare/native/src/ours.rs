@@ -113,9 +113,29 @@ pub fn takes_place(call: u64) -> bool {
     matches!(call, 9..=18)
 }
 
+fn place(q: &Request) -> usize {
+    if takes_place(q.call) {
+        q.a.len() % PLACES
+    } else {
+        0
+    }
+}
+
 pub fn ask(q: &Request, lent: &mut Lent) -> Said {
-    let at = if takes_place(q.call) { q.a.len() % PLACES } else { 0 };
-    ask_at(q, at, at, lent)
+    ask_at(q, place(q), place(q), lent)
+}
+
+/// Is it the daemon's stream of a handshake that was refused?
+pub fn is_daemons(q: &Request, r: &Refusal) -> bool {
+    q.call == 8 || r.stream == 1
+}
+
+/// The same, with the stream of a refusal cut where it refuses.
+pub fn ask_cut(q: &Request, r: &Refusal, lent: &mut Lent) -> Said {
+    let mut cut = q.clone();
+    let stream = if is_daemons(q, r) { &mut cut.b } else { &mut cut.a };
+    stream.truncate(r.place);
+    ask_at(&cut, place(q), place(q), lent)
 }
 
 /// At a place, with so many bytes before the stream: fewer than the place where it is cut below that.
@@ -127,7 +147,7 @@ pub fn ask_at(q: &Request, at: usize, before: usize, lent: &mut Lent) -> Said {
             let (entries, payload) = (a.entries.len(), a.payload.len());
             (Ok(success(q, at, a)), entries, payload)
         }
-        Err(r) => (Err(r), 0, 0),
+        Err(r) => (Err(Refusal { place: r.place.wrapping_sub(at), ..r }), 0, 0),
     };
     Said { answer, is_kept: lent.is_kept_beyond(entries, payload) }
 }

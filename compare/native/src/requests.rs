@@ -1,9 +1,9 @@
 //! The requests of a seed, answered by both.
 use crate::judge::{judge, Verdict};
 use crate::lent::Lent;
-use crate::ours::ask;
+use crate::ours::{ask, ask_cut, Said};
 use crate::tally::Tally;
-use oracle::answer::answer;
+use oracle::answer::{answer, Answer};
 use oracle::generate;
 use oracle::request::Request;
 use std::sync::Mutex;
@@ -31,10 +31,21 @@ fn work(next: &Mutex<impl Iterator<Item = Numbered>>, mut tally: Tally, one: imp
     }
 }
 
+/// Cut at the bad byte, the stream is refused by 1 at the string's contents.
+fn are_contents_cut(q: &Request, rust: &Answer, ours: &Said, lent: &mut Lent) -> bool {
+    let (Answer::No(Some(bad)), Err(r)) = (rust, &ours.answer) else { return false };
+    let cut = ask_cut(q, r, lent);
+    let contents = r.place - bad.utf8_error().valid_up_to();
+    cut.is_kept && cut.answer.is_err_and(|c| (c.number, c.place, c.stream) == (1, contents, r.stream))
+}
+
 pub fn one(index: usize, q: &Request, lent: &mut Lent, tally: &mut Tally) {
     let rust = answer(q);
     let ours = ask(q, lent);
-    let verdict = judge(q, &rust, &ours);
+    let mut verdict = judge(q, &rust, &ours);
+    if verdict == Verdict::BadByte && !are_contents_cut(q, &rust, &ours, lent) {
+        verdict = Verdict::Different;
+    }
     tally.count(q.call, verdict as usize);
     if verdict == Verdict::Different {
         tally.differs(index, q, rust.to_string(), ours.to_string());

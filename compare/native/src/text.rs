@@ -50,11 +50,11 @@ fn try_all(part: &Part, tally: &mut Tally) {
     let contents = CONTENTS..CONTENTS + part.length;
     for x in part.numbers.clone().step_by(part.stride) {
         stream[contents.clone()].copy_from_slice(&x.to_be_bytes()[8 - part.length..]);
-        let is_text = str::from_utf8(&stream[contents.clone()]).is_ok();
+        let text = str::from_utf8(&stream[contents.clone()]);
         let said = raw::read_string(&stream[..whole], 0);
         let is_right = match &said {
-            Ok(a) => is_text && a.end == whole && a.own_entry() == Entry { start: CONTENTS, length: part.length },
-            Err(r) => !is_text && (r.number, r.place, r.stream) == (3, CONTENTS, 0),
+            Ok(a) => text.is_ok() && a.end == whole && a.own_entry() == Entry { start: CONTENTS, length: part.length },
+            Err(r) => text.is_err_and(|bad| (r.number, r.place, r.stream) == (3, CONTENTS + bad.valid_up_to(), 0)),
         };
         tally.strings += 1;
         if !is_right {
@@ -87,7 +87,7 @@ pub fn run(stride: usize, threads: usize) -> bool {
     });
     if let Some((length, x, said)) = &tally.smallest {
         let bytes = &x.to_be_bytes()[8 - length..];
-        println!("the smallest that differs: {bytes:02x?}\nrust: {}\nours: {said}", str::from_utf8(bytes).is_ok());
+        println!("the smallest that differs: {bytes:02x?}\nrust: {:?}\nours: {said}", str::from_utf8(bytes));
     }
     let which = if stride == 1 { "all".to_string() } else { format!("one in {stride}") };
     println!(

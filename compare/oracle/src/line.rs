@@ -1,6 +1,7 @@
 //! What nix-wire answered, in the probe's form. nix-wire has no entries: in their place stand the strings, `t=HEX,HEX,`, in reading order.
 use anyhow::Result;
 use std::fmt;
+use std::string::FromUtf8Error;
 
 #[derive(Default)]
 pub struct Line {
@@ -86,7 +87,8 @@ impl fmt::Display for Line {
 
 pub enum Answer {
     Ok(Line),
-    No,
+    /// With the string that is no text, where that is why.
+    No(Option<FromUtf8Error>),
     /// Outside the domain of the comparison.
     Out,
     /// A panic that the domain does not explain.
@@ -95,7 +97,7 @@ pub enum Answer {
 
 impl From<Result<Line>> for Answer {
     fn from(r: Result<Line>) -> Answer {
-        r.map_or(Answer::No, Answer::Ok)
+        r.map_or_else(|why| Answer::No(why.chain().find_map(|cause| cause.downcast_ref().cloned())), Answer::Ok)
     }
 }
 
@@ -103,7 +105,7 @@ impl fmt::Display for Answer {
     fn fmt(&self, f: &mut fmt::Formatter) -> fmt::Result {
         match self {
             Answer::Ok(line) => line.fmt(f),
-            Answer::No => f.write_str("no"),
+            Answer::No(_) => f.write_str("no"),
             Answer::Out => f.write_str("out"),
             Answer::Panic => f.write_str("panic"),
         }

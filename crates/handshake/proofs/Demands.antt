@@ -180,7 +180,7 @@ module _ (κs : Lfts 3) (a : Dens κs parse-handshake-kinds.ps) (r : Answer) (x 
       let w = soft-rest-handshake (clientOf a) (clientOf a′) (daemonOf a) (daemonOf a′) client daemon (meant .0) (m .0) in
       (rw (m .1 .1 .0) at (w .0), rw (m .1 .1 .1) at (w .1))
 
-  -- with room for all entries: every decoded string is text, and the answer is as before; or 3 at the first that is not, on its stream
+  -- with room for all entries: every decoded string is text, and the answer is as before; or 3 in the first that is not, on its stream
   pub soft-judged-handshake : keptHeard (heardIn a) ≤ length (entriesAt a′) / 2
       → (said : Result L.Answer) × (r′ ≡ answerAs said) × VerdictHeard (clientOf a′) (daemonOf a′) (heardIn a) (ok (saidBy r)) said
   soft-judged-handshake slots =
@@ -225,7 +225,7 @@ module _ (κs : Lfts 2) (a : Dens κs parse-daemon-handshake-kinds.ps) (r : Answ
       let w = soft-rest-daemon-handshake (versionOf a) (streamOf a) (streamOf a′) soft (alone-meant .0) (m .0) in
       rw (m .1 .1 .1) at w
 
-  -- with room for all entries: every decoded string is text, and the answer is as before; or 3 at the first that is not
+  -- with room for all entries: every decoded string is text, and the answer is as before; or 3 in the first that is not
   pub soft-judged-daemon-handshake : keptHeard (aloneIn a) ≤ length (roomAt a′) / 2
       → (said : Result L.Answer) × (r′ ≡ answerAs said) × VerdictHeard [] (streamOf a′) (aloneIn a) (ok (saidBy r)) said
   soft-judged-daemon-handshake slots =

@@ -5,12 +5,12 @@ use mathlib.Core.List.{List}
 use mathlib.Core.Bool.{Bool, true, false}
 use lib.ListN.{drop}
 use native.Mathlib.Omega.{arith}
-use Rattle.layouts.specs.Primitive.{Version, Result, ok, refused, onward}
+use Rattle.layouts.specs.Primitive.{pick, badText, Version, Result, ok, refused, onward}
 use Rattle.layouts.specs.Shape.{Tree, layout}
 use Rattle.layouts.specs.Pieces.{Pieces, number, text, half, chunk, end, fault, run, skipOf, totalOf}
 use Rattle.layouts.specs.Record.{blank, recordOf}
-use Rattle.layouts.specs.Judge.{notText, Ended, judgeOf}
-use Rattle.layouts.specs.Soft.{Softened, keptOf, orBad, unlessBad}
+use Rattle.layouts.specs.Judge.{notText, textEnd, Ended, judgeOf}
+use Rattle.layouts.specs.Soft.{Softened, keptOf, unlessBad}
 use Rattle.layouts.specs.Operations.{Kinds, Row, row, unknown, find}
 use Rattle.layouts.specs.Calls.{argumentsTree, skippedTree, replyTree, byRow, argumentsKinds, replyKinds, Answer, answered, readOf, readOpArgs, readDaemonResult, skipDaemonResult, skipOpArgs}
 use Rattle.layouts.specs.Demands.{RefusedBy, meaningOf}
@@ -20,15 +20,16 @@ use Rattle.layouts.proofs.Soft.{soft-rest}
 use Rattle.layouts.proofs.Theorems.{soft-skip, soft-read, soft-answer, skip-refused}
 
 -- an answer is built from what was judged, unless a text was bad
-or-answered : {A B : Type 0} (b : Bool) (start : ℕ) (o : Result A) (k : A → Result B) (o' : Result B) → onward o k ≡ o' → onward (orBad b start o) k ≡ orBad b start o'
-or-answered true start o k o' e = refl
-or-answered false start o k o' e = e
+or-answered : {A B : Type 0} (b : Bool) (x : ℕ) (o : Result A) (k : A → Result B) (o' : Result B) → onward o k ≡ o'
+    → onward (pick b (refused badText x 0) o) k ≡ pick b (refused badText x 0) o'
+or-answered true x o k o' e = refl
+or-answered false x o k o' e = e
 
 pub unless-answered : {A B : Type 0} (s : List ℕ) (p : Pieces) (x : A) (k : A → Result B) → onward (unlessBad s p (ok x)) k ≡ unlessBad s p (k x)
 unfolding unlessBad
 unless-answered s (number i place n p) x k = unless-answered s p x k
-unless-answered s (text m start len p) x k = or-answered (notText s m start len) start (unlessBad s p (ok x)) k (unlessBad s p (k x)) (unless-answered s p x k)
-unless-answered s (half m start len) x k = or-answered (notText s m start len) start (ok x) k (k x) refl
+unless-answered s (text m start len p) x k = or-answered (notText s m start len) (textEnd s start len) (unlessBad s p (ok x)) k (unlessBad s p (k x)) (unless-answered s p x k)
+unless-answered s (half m start len) x k = or-answered (notText s m start len) (textEnd s start len) (ok x) k (k x) refl
 unless-answered s (chunk start len p) x k = unless-answered s p x k
 unless-answered s (end place) x k = refl
 unless-answered s (fault which place) x k = refl
@@ -66,7 +67,7 @@ module _ (op : ℕ) (v : Version) (s s' : List ℕ) where
     unfolding skipDaemonResult
     soft-skip-reply = soft-skip (replyTree op v) s s' a
 
-    -- reading, with room for all its entries and payload, ends there too with what the sent bytes mean, or refuses by 3 at the first string that is no text
+    -- reading, with room for all its entries and payload, ends there too with what the sent bytes mean, or refuses by 3 in the first string that is no text
     pub soft-read-reply : (slots room e : ℕ) → skipDaemonResult op v s ≡ ok e → keptOf reply ≤ slots → totalOf reply ≤ room
         → readDaemonResult op v s' slots room ≡ unlessBad s' reply (meaningOf v (replyKinds op) reply e)
     unfolding skipDaemonResult readDaemonResult

@@ -18,7 +18,7 @@ use Rattle.layouts.specs.Primitive.{pick, littleAt, numberAt, cutShort, 
 use Rattle.layouts.specs.Shape.{Target, Role, What, num, str, set, pairs, framed, maybe, typed, Tree, ask, say, frames, layout, asNumber, asCount, passed, kept}
 use Rattle.layouts.specs.Pieces.{Pieces, fault, afterNum, afterText, afterChunk, chunks, run, skipOf, totalOf}
 use Rattle.layouts.specs.Record.{blank, noted, withNumber, entered, withPayload}
-use Rattle.layouts.specs.Judge.{notText, textTaken, halfTaken, chunkTaken, Ended, judgeOf, payloadOf, lentAfter}
+use Rattle.layouts.specs.Judge.{notText, textEnd, textTaken, halfTaken, chunkTaken, Ended, judgeOf, payloadOf, lentAfter}
 use Rattle.layouts.specs.Operations.{Kinds}
 use Rattle.layouts.specs.Calls.{Answer, answered, argumentsKinds, skippedKinds, replyKinds, argumentsTree, skippedTree, replyTree, readOf, readOpArgs, readDaemonResult, skipDaemonResult, skipOpArgs, field, readField, readNumber, readU32, skipString, readString, readStringSet, skipStringSet, readFramed, skipFramed}
 use Rattle.layouts.specs.Cut.{CutBefore, SameTo, CutOrLonger, RefusedAsCut, WholeOnly}
@@ -40,8 +40,8 @@ cut-skip (cut-text c) = cut-skip c
 cut-skip (cut-chunk c) = cut-skip c
 
 -- a string or a chunk in a layout that is read to its end
-taken : {bad : Bool} {lacks fits : Type 0} {start : ℕ} {r : Record} {o : Result Record} {x : Ended} (k : Record → Result Ended) → Step bad lacks fits start r o
-    → onward o k ≡ ok x → (o ≡ ok r) × (bad ≡ false) × (k r ≡ ok x)
+taken : {bad : Bool} {lacks fits : Type 0} {start x : ℕ} {r : Record} {o : Result Record} {e : Ended} (k : Record → Result Ended) → Step bad lacks fits start x r o
+    → onward o k ≡ ok e → (o ≡ ok r) × (bad ≡ false) × (k r ≡ ok e)
 taken k (is-bad b) e = absurd (never-both e)
 taken k (no-room w l) e = absurd (never-both e)
 taken k (goes-on b g) e = (refl, b, e)
@@ -52,7 +52,7 @@ module _ (s : List ℕ) (slots room : ℕ) (x : Ended) where
   cut-judge (cut-here place) r h = (place, refl)
   cut-judge (cut-half {m} {start} {len} {p}) r h =
       let t = taken (λ r'. judgeOf s slots room r' p) (text-step s slots r m start len) h in
-      (start + len, ap (λ (b : Bool). pick b (refused badText start 0) (refused cutShort (start + len) 0)) (t .1))
+      (start + len, ap (λ (b : Bool). pick b (refused badText (textEnd s start len) 0) (refused cutShort (start + len) 0)) (t .1))
   cut-judge (cut-number {i} {n = n} c) r h = cut-judge c (noted r i n) h
   cut-judge (cut-text {m} {start} {len} {p} {q} c) r h =
       let t = taken (λ r'. judgeOf s slots room r' p) (text-step s slots r m start len) h in
@@ -79,11 +79,11 @@ module _ (s s' : List ℕ) (hi : ℕ) (same : SameTo hi s s') where
   part-same start len h = sym (part-front start len hi s' h) ∙ ap (λ (u : List ℕ). take len (drop start u)) same ∙ part-front start len hi s h
 
   text-same : (slots : ℕ) (r : Record) (m : Role) (start len : ℕ) → start + len ≤ hi → textTaken s' slots r m start len ≡ textTaken s slots r m start len
-  unfolding textTaken notText
+  unfolding textTaken notText textEnd
   text-same slots r m start len h = rw (part-same start len h)
 
   half-same : (m : Role) (start len : ℕ) → start + len ≤ hi → _≡_ {A = Result Ended} (halfTaken s' m start len) (halfTaken s m start len)
-  unfolding halfTaken notText
+  unfolding halfTaken notText textEnd
   half-same m start len h = rw (part-same start len h)
 
   judge-same : {G : Type 0} {lo : ℕ} {p : Pieces} (slots room : ℕ) (r : Record) → Placed G hi lo p → judgeOf s' slots room r p ≡ judgeOf s slots room r p

@@ -6,7 +6,7 @@ use Rattle.layouts.specs.Primitive.{numberAt, numberBytes, padOf, atLeas
 use Rattle.layouts.specs.Shape.{layout}
 use Rattle.layouts.specs.Pieces.{numOf, textOf, chunkOf, run, skipOf}
 use Rattle.layouts.specs.Record.{noted, entered, recordOf}
-use Rattle.layouts.specs.Judge.{notText, textTaken, halfTaken, chunkTaken, judgeOf, entriesOf, payloadOf}
+use Rattle.layouts.specs.Judge.{notText, textEnd, textTaken, halfTaken, chunkTaken, judgeOf, entriesOf, payloadOf}
 use Rattle.layouts.specs.Operations.{kindOf, operations, find}
 use Rattle.layouts.specs.Calls.{argumentsTree, skippedTree, replyTree, readOpArgs, skipOpArgs, skipDaemonResult}
 use Rattle.layouts.specs.Stderr.{messageOf, stderrFrom, stderrLoop, readStderrLoop}
@@ -16,11 +16,11 @@ use Rattle.layouts.specs.CallWriter.{fieldsThere, callFields, valueFor, 
 use Rattle.layouts.specs.Examples.{Example, examples, pitfalls, callsWritten}
 
 pub hold : map (λ (e : Example). e .computed) examples ≡ map (λ (e : Example). e .stated) examples
-unfolding examples isText goodPrefix first charLength longer low high numberAt numberBytes padOf atLeast layout numOf textOf chunkOf run skipOf noted entered notText textTaken halfTaken chunkTaken judgeOf entriesOf payloadOf kindOf operations find argumentsTree skippedTree readOpArgs skipOpArgs messageOf stderrFrom stderrLoop readStderrLoop
+unfolding examples isText goodPrefix first charLength longer low high numberAt numberBytes padOf atLeast layout numOf textOf chunkOf run skipOf noted entered notText textEnd textTaken halfTaken chunkTaken judgeOf entriesOf payloadOf kindOf operations find argumentsTree skippedTree readOpArgs skipOpArgs messageOf stderrFrom stderrLoop readStderrLoop
 hold = refl
 
 pub avoided : map (λ (e : Example). e .computed) pitfalls ≡ map (λ (e : Example). e .stated) pitfalls
-unfolding pitfalls isText goodPrefix first charLength longer low high numberAt numberBytes padOf atLeast layout numOf textOf chunkOf run skipOf noted entered recordOf notText textTaken halfTaken chunkTaken judgeOf kindOf operations find skippedTree replyTree skipOpArgs skipDaemonResult hear judgeHeard daemonInfo greeting handshake parseHandshake
+unfolding pitfalls isText goodPrefix first charLength longer low high numberAt numberBytes padOf atLeast layout numOf textOf chunkOf run skipOf noted entered recordOf notText textEnd textTaken halfTaken chunkTaken judgeOf kindOf operations find skippedTree replyTree skipOpArgs skipDaemonResult hear judgeHeard daemonInfo greeting handshake parseHandshake
 avoided = refl
 
 pub calls-written : map (λ (e : Example). e .computed) callsWritten ≡ map (λ (e : Example). e .stated) callsWritten

@@ -10,15 +10,15 @@ use borrow.Author.Tests.{le-leb, lt-leb}
 use native.Mathlib.Omega.{arith}
 use native.Mathlib.Nat.{add-zero}
 use native.Mathlib.Decide.{decLe}
-use Rattle.text.specs.Rfc3629.{Text}
+use Rattle.text.specs.Rfc3629.{Text, IllFormedAt}
 use Rattle.text.specs.Prefix.{isText}
-use Rattle.text.proofs.Meaning.{is-text, text-is}
+use Rattle.text.proofs.Meaning.{text-is, ill-formed-at, not-text}
 use Rattle.layouts.specs.declared.Record.{Record}
 use Rattle.layouts.specs.Primitive.{pick, numberAt, numberBytes, limit, padOf, cutShort, tooLong, badText, noEntryRoom, noPayloadRoom, Result, ok, refused, onward}
 use Rattle.layouts.specs.Shape.{Role, kept, Tree, say, frames}
 use Rattle.layouts.specs.Pieces.{run}
 use Rattle.layouts.specs.Record.{isKept, entered, withPayload}
-use Rattle.layouts.specs.Judge.{isDecoded, notText, textTaken, halfTaken, chunkTaken, Ended, judgeOf}
+use Rattle.layouts.specs.Judge.{isDecoded, notText, textEnd, textTaken, halfTaken, chunkTaken, Ended, judgeOf}
 use Rattle.layouts.specs.Refusals.{Reads, reads-none, reads-number, reads-text, reads-chunk, reads-last, Needs, a-number, a-length, contents, padding, a-size, a-chunk, Measured, a-string, chunks, Fault, cut, too-long, bad-text, no-slot, no-room, unknown, Answers, Refuses}
 use Rattle.layouts.proofs.Little.{length-number}
 use Rattle.layouts.proofs.Steps.{ask-short, ask-value, say-short, say-long, say-cut, say-half, say-whole, frames-short, frames-last, frames-long, frames-cut, frames-part}
@@ -45,13 +45,13 @@ module _ (s : List ℕ) where
         by true g = rw (text-is c (g refl))
         by false g = refl
 
-    bad : isDecoded m ≡ true → (Text c → ⊥) → notText s m start (length c) ≡ true
+    bad : {n : ℕ} → isDecoded m ≡ true → IllFormedAt n c → notText s m start (length c) ≡ true
     unfolding notText
-    bad d g = rw (d, contents-are) (by (isText c) refl)
-      where
-        by : (b : Bool) → isText c ≡ b → not b ≡ true
-        by true q = absurd (g (is-text c q))
-        by false q = refl
+    bad d g = rw (d, contents-are, not-text g)
+
+    bad-at : {n : ℕ} → IllFormedAt n c → textEnd s start (length c) ≡ start + n
+    unfolding textEnd
+    bad-at g = rw (contents-are, ill-formed-at g)
 
     text-goes : (slots : ℕ) (r : Record) → (isDecoded m ≡ true → Text c) → (isKept m ≡ true → r .entries < slots)
         → textTaken s slots r m start (length c) ≡ ok (entered r m)
@@ -62,17 +62,17 @@ module _ (s : List ℕ) where
         by true h = rw (lt-leb slots (r .entries) (h refl))
         by false h = refl
 
-    text-bad : (slots : ℕ) (r : Record) → isDecoded m ≡ true → (Text c → ⊥) → textTaken s slots r m start (length c) ≡ refused badText start 0
+    text-bad : {n : ℕ} (slots : ℕ) (r : Record) → isDecoded m ≡ true → IllFormedAt n c → textTaken s slots r m start (length c) ≡ refused badText (start + n) 0
     unfolding textTaken
-    text-bad slots r d g = rw (bad d g)
+    text-bad slots r d g = rw (bad d g, bad-at g)
 
     half-fine : (isDecoded m ≡ true → Text c) → halfTaken {A = Ended} s m start (length c) ≡ refused cutShort (start + length c) 0
     unfolding halfTaken
     half-fine f = rw (fine f)
 
-    half-bad : isDecoded m ≡ true → (Text c → ⊥) → halfTaken {A = Ended} s m start (length c) ≡ refused badText start 0
+    half-bad : {n : ℕ} → isDecoded m ≡ true → IllFormedAt n c → halfTaken {A = Ended} s m start (length c) ≡ refused badText (start + n) 0
     unfolding halfTaken
-    half-bad d g = rw (bad d g)
+    half-bad d g = rw (bad d g, bad-at g)
 
   text-full : (start : ℕ) (c l : List ℕ) → drop start s ≡ c ++ l → (slots : ℕ) (r : Record) → Text c → slots ≤ r .entries
       → textTaken s slots r kept start (length c) ≡ refused noEntryRoom (start - 8) 0
@@ -170,11 +170,11 @@ module _ (s : List ℕ) (slots room : ℕ) where
       let z = head-size s at n u e in
       ap (judgeOf s slots room r) (frames-long s at n (head-number s at n u e h) k (omega arith) l)
 
-  -- 3, at the contents, whether or not the padding is there
-  bad-refused : (m : Role) (at : ℕ) (k : Unit {0} → Tree) (r : Record) (c u : List ℕ) → drop at s ≡ numberBytes (length c) ++ (c ++ u) → length c ≤ limit
-      → isDecoded m ≡ true → (Text c → ⊥) → judged (say m k) at r ≡ refused badText (at + 8) 0
+  -- 3, at the first ill-formed sequence, whether or not the padding is there
+  bad-refused : (m : Role) (at x : ℕ) (k : Unit {0} → Tree) (r : Record) (c u : List ℕ) → drop at s ≡ numberBytes (length c) ++ (c ++ u) → length c ≤ limit
+      → isDecoded m ≡ true → IllFormedAt x c → judged (say m k) at r ≡ refused badText (at + 8 + x) 0
   unfolding judgeOf
-  bad-refused m at k r c u e l d g = by (decLe (padOf n) (length u))
+  bad-refused m at x k r c u e l d g = by (decLe (padOf n) (length u))
     where
       n : ℕ
       n = length c
@@ -182,7 +182,7 @@ module _ (s : List ℕ) (slots room : ℕ) where
       z : at + 8 + (n + length u) ≡ length s
       z = simp length-append at (head-size s at n (c ++ u) e)
 
-      by : Dec (padOf n ≤ length u) → judged (say m k) at r ≡ refused badText (at + 8) 0
+      by : Dec (padOf n ≤ length u) → judged (say m k) at r ≡ refused badText (at + 8 + x) 0
       by (yes p) =
           ap (judgeOf s slots room r) (say-whole s at n (head-number s at n (c ++ u) e (omega arith)) m k (omega (arith, z)) l)
           ∙ ap (λ (o : Result Record). onward o (λ r'. judgeOf s slots room r' (run (k tt) s (at + 8 + n + padOf n)))) (text-bad s m (at + 8) c u (head-past s at n (c ++ u) e) slots r d g)
@@ -195,7 +195,7 @@ module _ (s : List ℕ) (slots room : ℕ) where
   unfolding judgeOf run
   fault-refused (cut t at further n r u y h) e = cut-refused y at r e h
   fault-refused (too-long t at n r u y l h) e = long-refused y at n r u e l h
-  fault-refused (bad-text m at k r c u l d g) e = bad-refused m at k r c u e l d g
+  fault-refused (bad-text m at x k r c u l d g) e = bad-refused m at x k r c u e l d g
   fault-refused (no-slot at k r c pad u l g x h) e =
       let n = length c in
       let v = c ++ (pad ++ u) in

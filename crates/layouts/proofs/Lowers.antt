@@ -10,13 +10,13 @@ use Rattle.layouts.specs.Primitive.{pick, numberAt, padOf, cutShort, bad
 use Rattle.layouts.specs.Shape.{Target, Role, passed, kept, Tree, ask, say, frames, stop, layout}
 use Rattle.layouts.specs.Pieces.{Pieces, Num, Text, afterNum, afterText, run, skipOf, totalOf}
 use Rattle.layouts.specs.Record.{blank, withNumber, noted, isKept, entered}
-use Rattle.layouts.specs.Judge.{notText, halfTaken, Ended, judgeOf}
+use Rattle.layouts.specs.Judge.{notText, textEnd, halfTaken, Ended, judgeOf}
 use Rattle.layouts.specs.Soft.{keptOf}
 use Rattle.layouts.specs.Calls.{skipFramed}
 use Rattle.layouts.proofs.Views.{NumView, is-value, is-short, TextView, no-length, too-long, no-contents, no-padding, is-whole, num-view, text-view}
 use Rattle.layouts.proofs.Placed.{never-both, ends, run-placed}
 use Rattle.layouts.specs.Demands.{RefusedBy}
-use Rattle.layouts.proofs.Judge.{noted-room, entered-room, Step, is-bad, no-room, goes-on, text-step, judge-read}
+use Rattle.layouts.proofs.Judge.{noted-room, entered-room, bad-inside, Step, is-bad, no-room, goes-on, text-step, judge-read}
 
 pub not-both : {b : Bool} → b ≡ true → b ≡ false → ⊥
 not-both e f = let z : _≡_ {A = ℕ} 0 1 = cc in omega arith
@@ -54,16 +54,16 @@ module _ {b : Bool} {s : List ℕ} where
   agree-earlier lo place h g (both-refused x y m l) = both-refused place y (omega arith) (omega arith)
 
   -- a string: what is bad when skipped is bad when read, and skipping lacks no room
-  agree-step : {bad bad' : Bool} {lacks lacks' fits fits' : Type 0} {start next : ℕ} {r r' : Record} {o o' : Result Record} (k k' : Record → Result Ended)
-      (lo : ℕ) → Step bad lacks fits start r o → Step bad' lacks' fits' start r' o' → (bad' ≡ true → bad ≡ true) → (lacks' → ⊥) → lo ≤ start → start ≤ next
-      → Agree b s next (k r) (k' r') → Agree b s lo (onward o k) (onward o' k')
-  agree-step {start} k k' lo (is-bad e) (is-bad e') f g l m h = both-refused start start (omega arith) l
-  agree-step {start} k k' lo (no-room w e) (is-bad e') f g l m h = both-refused (start - 8) start (omega arith) l
-  agree-step k k' lo (goes-on e q) (is-bad e') f g l m h = absurd (not-both (f e') e)
-  agree-step k k' lo a (no-room w e') f g l m h = absurd (g e')
-  agree-step {start} k k' lo (is-bad e) (goes-on e' q') f g l m h = agree-earlier lo start (omega arith) m h
-  agree-step {start} k k' lo (no-room w e) (goes-on e' q') f g l m h = agree-earlier lo (start - 8) (omega arith) (omega arith) h
-  agree-step k k' lo (goes-on e q) (goes-on e' q') f g l m h = agree-from lo (omega arith) h
+  agree-step : {bad bad' : Bool} {lacks lacks' fits fits' : Type 0} {start x next : ℕ} {r r' : Record} {o o' : Result Record} (k k' : Record → Result Ended)
+      (lo : ℕ) → Step bad lacks fits start x r o → Step bad' lacks' fits' start x r' o' → (bad' ≡ true → bad ≡ true) → (lacks' → ⊥) → lo ≤ start → start ≤ next
+      → (bad ≡ true → (start ≤ x) × (x ≤ next)) → Agree b s next (k r) (k' r') → Agree b s lo (onward o k) (onward o' k')
+  agree-step {x} k k' lo (is-bad e) (is-bad e') f g l m i h = let z = i e in both-refused x x (omega arith) (omega arith)
+  agree-step {start} {x} k k' lo (no-room w e) (is-bad e') f g l m i h = let z = i (f e') in both-refused (start - 8) x (omega arith) (omega arith)
+  agree-step k k' lo (goes-on e q) (is-bad e') f g l m i h = absurd (not-both (f e') e)
+  agree-step k k' lo a (no-room w e') f g l m i h = absurd (g e')
+  agree-step {x} k k' lo (is-bad e) (goes-on e' q') f g l m i h = let z = i e in agree-earlier lo x (omega arith) (z .1) h
+  agree-step {start} k k' lo (no-room w e) (goes-on e' q') f g l m i h = agree-earlier lo (start - 8) (omega arith) (omega arith) h
+  agree-step k k' lo (goes-on e q) (goes-on e' q') f g l m i h = agree-from lo (omega arith) h
 
   -- where reading ends, skipping ends
   pub both : {lo : ℕ} {o o' : Result Ended} (x : Ended) → Agree b s lo o o' → o ≡ ok x → (y : Ended) × (o' ≡ ok y) × Ends b s (y .ends) (x .ends)
@@ -81,14 +81,17 @@ module _ (s : List ℕ) (slots room : ℕ) {b : Bool} where
   half-agree : (m m' : Role) (lo start len : ℕ) → (notText s m' start len ≡ true → notText s m start len ≡ true) → lo ≤ start
       → Agree b s lo (halfTaken s m start len) (halfTaken s m' start len)
   unfolding halfTaken
-  half-agree m m' lo start len f l = by (notText s m start len) (notText s m' start len) f
+  half-agree m m' lo start len f l = by (notText s m start len) (notText s m' start len) refl f
     where
-      by : (c c' : Bool) → (c' ≡ true → c ≡ true)
-          → Agree b s lo (pick c (refused badText start 0) (refused cutShort (start + len) 0)) (pick c' (refused badText start 0) (refused cutShort (start + len) 0))
-      by true true g = both-refused start start (omega arith) l
-      by true false g = both-refused start (start + len) (omega arith) (omega arith)
-      by false true g = absurd (not-both (g refl) refl)
-      by false false g = both-refused (start + len) (start + len) (omega arith) (omega arith)
+      x : ℕ
+      x = textEnd s start len
+
+      by : (c c' : Bool) → notText s m start len ≡ c → (c' ≡ true → c ≡ true)
+          → Agree b s lo (pick c (refused badText x 0) (refused cutShort (start + len) 0)) (pick c' (refused badText x 0) (refused cutShort (start + len) 0))
+      by true true e g = let i = bad-inside s m start len e in both-refused x x (omega arith) (omega arith)
+      by true false e g = let i = bad-inside s m start len e in both-refused x (start + len) (omega arith) (omega arith)
+      by false true e g = absurd (not-both (g refl) refl)
+      by false false e g = both-refused (start + len) (start + len) (omega arith) (omega arith)
 
   module _ (r r' : Record) where
     num-agree : {n at : ℕ} {w : Num} (i i' : Target) (p q : ℕ → Pieces) → NumView (length s) n at w
@@ -109,7 +112,8 @@ module _ (s : List ℕ) (slots room : ℕ) {b : Bool} where
     text-agree {n} {at} m m' p q (no-padding h x c) f l g = half-agree m m' at (at + 8) n (f (at + 8) n) (omega arith)
     text-agree {n} {at} m m' p q (is-whole h x) f l g =
         agree-step (λ y. judgeOf s slots room y (p (at + 8 + n + padOf n))) (λ y. judgeOf s 1 0 y (q (at + 8 + n + padOf n))) at
-        (text-step s slots r m (at + 8) n) (text-step s 1 r' m' (at + 8) n) (f (at + 8) n) (λ z. omega arith) (omega arith) (omega arith) (g (at + 8 + n + padOf n) h)
+        (text-step s slots r m (at + 8) n) (text-step s 1 r' m' (at + 8) n) (f (at + 8) n) (λ z. omega arith) (omega arith)
+        (omega arith) (λ e. let i = bad-inside s m (at + 8) n e in (omega arith, omega arith)) (g (at + 8 + n + padOf n) h)
 
 -- F alone
 skips-framed : (s : List ℕ) (at e : ℕ) → skipOf (run (frames (λ u. stop)) s at) ≡ ok e → (z : Ended) × (skipFramed s at ≡ ok z) × (z .ends ≡ e)

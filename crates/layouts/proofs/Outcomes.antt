@@ -7,9 +7,9 @@ use lib.ListN.{length, take, drop, length-append, take-append-drop}
 use lib.Seq.{length-take-le, getD-drop}
 use native.Mathlib.Omega.{arith}
 use native.Mathlib.Decide.{decLe}
-use Rattle.text.specs.Rfc3629.{Text}
-use Rattle.text.specs.Prefix.{isText}
-use Rattle.text.proofs.Meaning.{is-text, text-is}
+use Rattle.text.specs.Rfc3629.{Text, IllFormedAt}
+use Rattle.text.specs.Prefix.{goodPrefix, isText}
+use Rattle.text.proofs.Meaning.{is-text, ill-formed}
 use Rattle.layouts.specs.declared.Record.{Record}
 use Rattle.layouts.specs.Primitive.{numberAt, numberBytes, limit, padOf, noEntryRoom}
 use Rattle.layouts.specs.Shape.{Target, Role, passed, checked, kept, Tree, ask, say, frames, fail, stop}
@@ -30,14 +30,14 @@ part-there n u h l = (take n u, drop n u, sym (take-append-drop n u), length-tak
 -- contents need be no text, or are text; or they are bad
 data Judgement (m : Role) (c : List ℕ) : Type 0 where
   is-fine : (isDecoded m ≡ true → Text c) → Judgement m c
-  is-bad : isDecoded m ≡ true → (Text c → ⊥) → Judgement m c
+  is-bad : (n : ℕ) → isDecoded m ≡ true → IllFormedAt n c → Judgement m c
 
 judgement : (m : Role) (c : List ℕ) → Judgement m c
 judgement m c = by (isDecoded m) (isText c) refl refl
   where
     by : (b d : Bool) → isDecoded m ≡ b → isText c ≡ d → Judgement m c
     by true true e q = is-fine (λ d. is-text c q)
-    by true false e q = is-bad e (λ x. never-true (sym q ∙ text-is c x))
+    by true false e q = is-bad (goodPrefix c) e (ill-formed c q)
     by false d e q = is-fine (λ p. absurd (never-true (sym e ∙ p)))
 
 -- a string needs no slot, or has one; or there is none
@@ -121,7 +121,7 @@ module _ (slots room : ℕ) where
         u = numberBytes (length c) ++ (c ++ v)
 
         by : Judgement m c → Dec (padOf (length c) ≤ length v) → Outcome (say m k) at r u
-        by (is-bad d f) p = faulty (say m k) at r u (bad-text m at k r c v l d f)
+        by (is-bad n d f) p = faulty (say m k) at r u (bad-text m at n k r c v l d f)
         by (is-fine f) (no p) =
             faulty (say m k) at r u
             (cut (say m k) at (8 + length c) _ r u (padding m k c v l f) (simp (length-append, length-number) (omega arith)))

@@ -16,7 +16,7 @@ use Rattle.layouts.specs.Primitive.{pick, numberAt, numberBytes, limit, 
 use Rattle.layouts.specs.Shape.{Role, passed, kept, asCount, str, set, units, layout, Tree, stop}
 use Rattle.layouts.specs.Pieces.{Pieces, number, text, end, run, skipOf}
 use Rattle.layouts.specs.Record.{blank, withCount, withEntries, noted, entered}
-use Rattle.layouts.specs.Judge.{Ended, notText, textTaken, judgeOf, entriesOf}
+use Rattle.layouts.specs.Judge.{Ended, notText, textEnd, textTaken, judgeOf, entriesOf}
 use Rattle.layouts.specs.Grammar.{Says, says-number, says-text, says-end}
 use Rattle.layouts.specs.Calls.{field, skipString, readString, readStringSet}
 use Rattle.layouts.specs.Writers.{viewOf, stringBytes, stringsBytes, setBytes, textAt, textsFrom, textsOf}
@@ -210,7 +210,7 @@ not-refused false which place o x h = (refl, h)
 
 taken-text : (s : List ℕ) (slots : ℕ) (r a : Record) (start len : ℕ) → textTaken s slots r kept start len ≡ ok a → isText (take len (drop start s)) ≡ true
 unfolding textTaken notText
-taken-text s slots r a start len h = not-false (isText (take len (drop start s))) ((not-refused (notText s kept start len) badText start _ a h) .0)
+taken-text s slots r a start len h = not-false (isText (take len (drop start s))) ((not-refused (notText s kept start len) badText (textEnd s start len) _ a h) .0)
 
 strings-back : (s u : List ℕ) (slots room n at : ℕ) (b : List ℕ) (p : Pieces) (r : Record) (x : Ended) → Says (units kept 0 n (λ u. stop)) at b p → drop at s ≡ b ++ u
     → ZeroPadded s p → judgeOf s slots room r p ≡ ok x → (cs : List (List ℕ)) × (stringsBytes cs ≡ b) × (length cs ≡ n) × Strings cs

@@ -14,7 +14,7 @@ use Rattle.layouts.specs.Shape.{Target, What, Role, str, framed, always,
 use Rattle.layouts.specs.Pieces as P
 use Rattle.layouts.specs.Pieces.{Pieces, number, text, half, chunk, end, fault, run, afterNum, afterText, afterChunk, chunks, skipOf}
 use Rattle.layouts.specs.Record.{blank, noted, isKept, entered, withPayload}
-use Rattle.layouts.specs.Judge.{notText, textTaken, halfTaken, chunkTaken, judgeOf}
+use Rattle.layouts.specs.Judge.{notText, textEnd, textTaken, halfTaken, chunkTaken, judgeOf}
 use Rattle.layouts.specs.Operations.{Kinds, kindOf, Operation, Row, row, unknown, find}
 use Rattle.layouts.specs.Calls.{byRow, argumentsTree, skippedTree, replyTree, argumentsKinds, skippedKinds, replyKinds, answered, readOf, readOpArgs, readDaemonResult, skipDaemonResult, skipOpArgs, field, readField, readU32, skipFramed}
 use Rattle.layouts.specs.Writers.{slotsOf, entryStart, entryLength, viewOf, stringBytes, setBytes, writing, writeString, textAt, textsFrom, textsOf, writeStringSet}
@@ -106,10 +106,10 @@ module _ (s : List ℕ) where
   judge-numbered slots room r (number i place n p) h = judge-numbered slots room (noted r i n) p h
   judge-numbered slots room r (text m start len p) h =
       onward-numbered (textTaken s slots r m start len) (λ r'. judgeOf s slots room r' p)
-      (pick-numbered (notText s m start len) (refused badText start 0) (pick (isKept m && leb slots (r .entries)) (refused noEntryRoom (start - 8) 0) (ok (entered r m))) (omega arith)
+      (pick-numbered (notText s m start len) (refused badText (textEnd s start len) 0) (pick (isKept m && leb slots (r .entries)) (refused noEntryRoom (start - 8) 0) (ok (entered r m))) (omega arith)
       (pick-numbered (isKept m && leb slots (r .entries)) (refused noEntryRoom (start - 8) 0) (ok (entered r m)) (omega arith) tt))
       (λ r'. judge-numbered slots room r' p h)
-  judge-numbered slots room r (half m start len) h = pick-numbered (notText s m start len) (refused badText start 0) (refused cutShort (start + len) 0) (omega arith) (omega arith)
+  judge-numbered slots room r (half m start len) h = pick-numbered (notText s m start len) (refused badText (textEnd s start len) 0) (refused cutShort (start + len) 0) (omega arith) (omega arith)
   judge-numbered slots room r (chunk start len p) h =
       onward-numbered (chunkTaken room r start len) (λ r'. judgeOf s slots room r' p)
       (pick-numbered (leb (r .payload + len) room) (ok (withPayload r (r .payload + len))) (refused noPayloadRoom (start - 8) 0) tt (omega arith))

@@ -8,15 +8,15 @@ use lib.Dec.{eqb}
 use native.Mathlib.Omega.{arith}
 use native.Mathlib.Nat.{zero-add}
 use Rattle.layouts.specs.declared.Record.{Record}
-use Rattle.layouts.specs.Primitive.{pick, Version, version, fromWire, clientMagicWrong, daemonMagicWrong, notLast, Result, ok, refused, onward}
+use Rattle.layouts.specs.Primitive.{pick, badText, Version, version, fromWire, clientMagicWrong, daemonMagicWrong, notLast, Result, ok, refused, onward}
 use Rattle.layouts.specs.Shape.{Tree, Gated, once}
 use Rattle.layouts.specs.Pieces.{Pieces, number, text, half, chunk, end, fault, run, skipOf, totalOf}
 use Rattle.layouts.specs.Record.{blank, recordOf}
-use Rattle.layouts.specs.Judge.{notText, Ended, judgeOf}
+use Rattle.layouts.specs.Judge.{notText, textEnd, Ended, judgeOf}
 use Rattle.layouts.specs.Handshake.{Talk, turn, lost, over, Heard, heard, failed, ended, ifEnds, hear, Both, onStream, judgeHeard, clientMagic, daemonMagic, numberIn, fieldsAt, hello, featureFields, obsoleteFields, infoFields, daemonInfo, daemonGreeting, greeting, handshake, daemonHandshake, handshakeAnswer, parseHandshake, parseDaemonHandshake}
 use Rattle.layouts.specs.Operations.{N}
 use Rattle.layouts.specs.Stderr.{Last}
-use Rattle.layouts.specs.Soft.{soft, softHeard, SoftenedOn, orBad, unlessBad, skipHeard, recordHeard, keptHeard, orOn, unlessHeard}
+use Rattle.layouts.specs.Soft.{soft, softHeard, SoftenedOn, unlessBad, skipHeard, recordHeard, keptHeard, orOn, unlessHeard}
 use Rattle.layouts.specs.Demands.{Verdict, all-text, first-bad, in-turn, after-turn, VerdictHeard, all-heard, first-heard, bothMean, handshakeMeaning, daemonMeaning}
 use Rattle.layouts.proofs.Trees.{AllFit, no-payload, layout-never-fails}
 use Rattle.layouts.proofs.Placed.{never-both, NoFail, run-placed, ends, soft-low, soft-high, neither}
@@ -198,17 +198,17 @@ soft-heard-daemon x r s u u' f z q =
     same-drop u u' (z .daemonEnds) (f .size) (λ y g l. f .hard y l (heard-high s u z y true x 0 0 r (omega arith) (omega arith) q g))
 
 -- ---- reading, with room
-or-on : {A : Type 0} (d b : Bool) (start : ℕ) (o : Result Ended) (k : Ended → Result A) (v : Result (Unit {0})) (a : Result A)
-    → onward (onStream d o) k ≡ orOn d v a → onward (onStream d (orBad b start o)) k ≡ orOn d (orBad b start v) a
-or-on d true start o k v a e = refl
-or-on d false start o k v a e = e
+or-on : {A : Type 0} (d b : Bool) (x : ℕ) (o : Result Ended) (k : Ended → Result A) (v : Result (Unit {0})) (a : Result A) → onward (onStream d o) k ≡ orOn d v a
+    → onward (onStream d (pick b (refused badText x 0) o)) k ≡ orOn d (pick b (refused badText x 0) v) a
+or-on d true x o k v a e = refl
+or-on d false x o k v a e = e
 
 unless-on : {A : Type 0} (d : Bool) (s : List ℕ) (p : Pieces) (x : Ended) (k : Ended → Result A)
     → onward (onStream d (unlessBad s p (ok x))) k ≡ orOn d (unlessBad s p (ok tt)) (k x)
 unfolding unlessBad
 unless-on d s (number i place n p) x k = unless-on d s p x k
-unless-on d s (text m start len p) x k = or-on d (notText s m start len) start (unlessBad s p (ok x)) k (unlessBad s p (ok tt)) (k x) (unless-on d s p x k)
-unless-on d s (half m start len) x k = or-on d (notText s m start len) start (ok x) k (ok tt) (k x) refl
+unless-on d s (text m start len p) x k = or-on d (notText s m start len) (textEnd s start len) (unlessBad s p (ok x)) k (unlessBad s p (ok tt)) (k x) (unless-on d s p x k)
+unless-on d s (half m start len) x k = or-on d (notText s m start len) (textEnd s start len) (ok x) k (ok tt) (k x) refl
 unless-on d s (chunk start len p) x k = unless-on d s p x k
 unless-on d s (end place) x k = refl
 unless-on d s (fault which place) x k = refl
@@ -339,7 +339,7 @@ module _ {A : Type 0} (s u : List ℕ) where
   turn-verdict (all-text f) (first-heard g) = first-heard (after-turn f g)
   turn-verdict (first-bad f) w = first-heard (in-turn f)
 
-  -- every decoded string is text and the answer is as given, or 3 at the first that is not, on its stream
+  -- every decoded string is text and the answer is as given, or 3 in the first that is not, on its stream
   pub unless-heard : (h : Heard) (o : Result A) → VerdictHeard s u h o (unlessHeard s u h o)
   unfolding unlessHeard
   unless-heard (heard d p h) o = turn-verdict (unless-bad (pick d u s) p (ok tt)) (unless-heard h o)
@@ -359,7 +359,7 @@ heard-answered s u (failed which place stream) x k = refl
 heard-answered s u (ended a b) x k = refl
 
 -- ---- demand 3 for both handshakes: where both streams are passed to the end, and with room for all entries, streams that differ in soft bytes only are read
--- the same, unless a decoded string is not text: then 3 at the first such one, on its stream
+-- the same, unless a decoded string is not text: then 3 in the first such one, on its stream
 module _ (x : Talk) (f : EachTurn NoPayload x) (s s' u u' : List ℕ) (a : SoftenedOn false (hear x s u 0 0 blank) s s') (b : SoftenedOn true (hear x s u 0 0 blank) u u')
     (slots : ℕ) (e : Both) (q : skipHeard (hear x s u 0 0 blank) ≡ ok e) (l : keptHeard (hear x s u 0 0 blank) ≤ slots) where
   soft-judge : {A : Type 0} (k : Both → Result A) → onward (judgeHeard s' u' slots blank (hear x s' u' 0 0 blank)) k

@@ -3,25 +3,23 @@
 use Prim.Native.Nat.{ℕ, _+_, _*_, _≤_, _<_}
 use mathlib.Core.Path.{_≡_, refl, sym, _∙_, ap}
 use mathlib.Core.List.{List, _++_}
-use mathlib.Core.Bool.{Bool, true, false, not, _&&_}
+use mathlib.Core.Bool.{Bool, true, false}
 use lib.ListN.{length, take, drop, length-append, length-take, length-drop, List·getD-append}
 use lib.Seq.{getD-take, getD-drop, ext-getD}
 use native.Mathlib.Omega.{arith}
-use borrow.Author.Tests.{lt-ltb, not-false}
-use Rattle.text.specs.Prefix.{isText}
-use Rattle.text.proofs.Meaning.{is-text, text-is}
+use borrow.Author.Tests.{lt-ltb}
 use Rattle.layouts.specs.declared.Record.{Record}
-use Rattle.layouts.specs.Primitive.{Version, Result, ok, refused}
-use Rattle.layouts.specs.Shape.{Role, Group, Tree, layout}
+use Rattle.layouts.specs.Primitive.{pick, badText, Version, Result, ok, refused}
+use Rattle.layouts.specs.Shape.{Group, Tree, layout}
 use Rattle.layouts.specs.Pieces.{Pieces, number, text, half, chunk, end, fault, run, skipOf, totalOf}
 use Rattle.layouts.specs.Record.{blank, recordOf}
-use Rattle.layouts.specs.Judge.{isDecoded, notText, Ended, judgeOf, entriesOf}
-use Rattle.layouts.specs.Soft.{Softened, keptOf, orBad, unlessBad}
+use Rattle.layouts.specs.Judge.{notText, textEnd, Ended, judgeOf, entriesOf}
+use Rattle.layouts.specs.Soft.{Softened, keptOf, unlessBad}
 use Rattle.layouts.specs.Writers.{slotsOf, entryStart, entryLength, viewOf}
-use Rattle.layouts.specs.Demands.{RefusedBy, Untouched, Fine, Bad, AllText, FirstBad, here, here-cut, after-number, after-text, after-chunk, Verdict, all-text, first-bad}
+use Rattle.layouts.specs.Demands.{RefusedBy, Untouched, AllText, FirstBad, here, here-cut, after-number, after-text, after-chunk, Verdict, all-text, first-bad}
 use Rattle.layouts.proofs.Soft.{soft-run-from}
 use Rattle.layouts.proofs.Placed.{run-placed}
-use Rattle.layouts.proofs.Judge.{judge-room, judge-read, judge-refused}
+use Rattle.layouts.proofs.Judge.{not-bad, text-bad, judge-room, judge-read, judge-refused}
 use Rattle.layouts.proofs.Trees.{layout-never-fails}
 
 -- s' is as s but for soft bytes of what the tree has from a place on
@@ -99,38 +97,24 @@ skip-refused v gs s slots room which place q = judge-refused s slots room blank 
 pub never-true : false ≡ true → ⊥
 never-true e = let z : _≡_ {A = ℕ} 0 1 = cc in omega arith
 
--- what `notText` says, in RFC 3629's words
-module _ (s : List ℕ) (m : Role) (start len : ℕ) where
-  not-bad : notText s m start len ≡ false → Fine s m start len
-  unfolding notText
-  not-bad e d = is-text (take len (drop start s)) (not-false (isText (take len (drop start s))) (rw d at e))
-
-  is-bad : notText s m start len ≡ true → Bad s m start len
-  unfolding notText
-  is-bad e = by (isDecoded m) refl e
-    where
-      by : (b : Bool) → isDecoded m ≡ b → b && not (isText (take len (drop start s))) ≡ true → Bad s m start len
-      by true d h = (d, λ t. let z = text-is (take len (drop start s)) t in never-true (rw z at h))
-      by false d h = absurd (never-true h)
-
 module _ {A : Type 0} (s : List ℕ) where
-  onto : {p q : Pieces} {o u : Result A} → (AllText s p → AllText s q) → ((x : ℕ) → FirstBad s p x → FirstBad s q x) → Verdict s p o u → Verdict s q o u
+  onto : {p q : Pieces} {o u : Result A} → (AllText s p → AllText s q) → ((x n : ℕ) → FirstBad s p x n → FirstBad s q x n) → Verdict s p o u → Verdict s q o u
   onto f g (all-text h) = all-text (f h)
-  onto f g (first-bad {start} h) = first-bad (g start h)
+  onto f g (first-bad {x} {n} h) = first-bad (g x n h)
 
   pub unless-bad : (p : Pieces) (o : Result A) → Verdict s p o (unlessBad s p o)
   unfolding unlessBad
-  unless-bad (number i place n p) o = onto (λ h. h) (λ x. after-number) (unless-bad p o)
+  unless-bad (number i place n p) o = onto (λ h. h) (λ x n. after-number) (unless-bad p o)
   unless-bad (text m start len p) o = by (notText s m start len) refl (unless-bad p o)
     where
-      by : {u : Result A} (b : Bool) → notText s m start len ≡ b → Verdict s p o u → Verdict s (text m start len p) o (orBad b start u)
-      by true e h = first-bad (here (is-bad s m start len e))
-      by false e h = let f = not-bad s m start len e in onto (λ y. (f, y)) (λ x. after-text f) h
+      by : {u : Result A} (b : Bool) → notText s m start len ≡ b → Verdict s p o u → Verdict s (text m start len p) o (pick b (refused badText (textEnd s start len) 0) u)
+      by true e h = let z = text-bad s m start len e in rw (z .1) (first-bad (here (z .2)))
+      by false e h = let f = not-bad s m start len e in onto (λ y. (f, y)) (λ x n. after-text f) h
   unless-bad (half m start len) o = by (notText s m start len) refl
     where
-      by : (b : Bool) → notText s m start len ≡ b → Verdict s (half m start len) o (orBad b start o)
-      by true e = first-bad (here-cut (is-bad s m start len e))
+      by : (b : Bool) → notText s m start len ≡ b → Verdict s (half m start len) o (pick b (refused badText (textEnd s start len) 0) o)
+      by true e = let z = text-bad s m start len e in rw (z .1) (first-bad (here-cut (z .2)))
       by false e = all-text (not-bad s m start len e)
-  unless-bad (chunk start len p) o = onto (λ h. h) (λ x. after-chunk) (unless-bad p o)
+  unless-bad (chunk start len p) o = onto (λ h. h) (λ x n. after-chunk) (unless-bad p o)
   unless-bad (end place) o = all-text tt
   unless-bad (fault which place) o = all-text tt

@@ -5,7 +5,7 @@ use mathlib.Core.List.{List, [], _∷_, _++_}
 use mathlib.Core.Bool.{Bool, true, _||_}
 use lib.ListN.{length, getD, take, drop}
 use lib.Dec.{eqb}
-use Rattle.text.specs.Rfc3629.{Text}
+use Rattle.text.specs.Rfc3629.{Text, IllFormedAt}
 use Rattle.layouts.specs.declared.Record.{Record}
 use Rattle.layouts.specs.Primitive.{pick, numberAt, limit, padOf, Version, version, fromWire, atLeast, badText, Result, ok, refused}
 use Rattle.layouts.specs.Shape.{Target, asCount, Role, kept, set}
@@ -95,12 +95,12 @@ meaningOf v k p e = answered v k (ok (record { found = recordOf blank p; ends = 
 abbrev pub Untouched : (s s' : List ℕ) → (start len : ℕ) → Type 0
 Untouched s s' start len = (x : ℕ) → start ≤ x → x < start + len → getD s' x 0 ≡ getD s x 0
 
--- a string, if it is decoded, is RFC 3629 text; it is decoded and is not
+-- a string, if it is decoded, is RFC 3629 text; it is decoded and is not, n bytes of it being good
 abbrev pub Fine : List ℕ → Role → (start len : ℕ) → Type 0
 Fine s m start len = isDecoded m ≡ true → Text (take len (drop start s))
 
-abbrev pub Bad : List ℕ → Role → (start len : ℕ) → Type 0
-Bad s m start len = (isDecoded m ≡ true) × (Text (take len (drop start s)) → ⊥)
+abbrev pub Bad : List ℕ → Role → (start len n : ℕ) → Type 0
+Bad s m start len n = (isDecoded m ≡ true) × IllFormedAt n (take len (drop start s))
 
 -- every decoded string is text
 abbrev pub AllText : List ℕ → Pieces → Type 0
@@ -111,18 +111,18 @@ AllText s (chunk start len p) = AllText s p
 AllText s (end place) = Unit {0}
 AllText s (fault which place) = Unit {0}
 
--- the first decoded string that is not text has its contents here
-pub data FirstBad (s : List ℕ) : Pieces → (start : ℕ) → Type 0 where
-  here : {m : Role} {start len : ℕ} {p : Pieces} → Bad s m start len → FirstBad s (text m start len p) start
-  here-cut : {m : Role} {start len : ℕ} → Bad s m start len → FirstBad s (half m start len) start
-  after-number : {i : Target} {place n x : ℕ} {p : Pieces} → FirstBad s p x → FirstBad s (number i place n p) x
-  after-text : {m : Role} {start len x : ℕ} {p : Pieces} → Fine s m start len → FirstBad s p x → FirstBad s (text m start len p) x
-  after-chunk : {start len x : ℕ} {p : Pieces} → FirstBad s p x → FirstBad s (chunk start len p) x
+-- the first decoded string that is not text has its contents from x on, of which n bytes are good
+pub data FirstBad (s : List ℕ) : Pieces → (x n : ℕ) → Type 0 where
+  here : {m : Role} {start len n : ℕ} {p : Pieces} → Bad s m start len n → FirstBad s (text m start len p) start n
+  here-cut : {m : Role} {start len n : ℕ} → Bad s m start len n → FirstBad s (half m start len) start n
+  after-number : {i : Target} {place v x n : ℕ} {p : Pieces} → FirstBad s p x n → FirstBad s (number i place v p) x n
+  after-text : {m : Role} {start len x n : ℕ} {p : Pieces} → Fine s m start len → FirstBad s p x n → FirstBad s (text m start len p) x n
+  after-chunk : {start len x n : ℕ} {p : Pieces} → FirstBad s p x n → FirstBad s (chunk start len p) x n
 
--- one of two: o, and every decoded string is text; 3 at the first that is not
+-- one of two: o, and every decoded string is text; 3 at the first ill-formed sequence of the first that is not
 pub data Verdict {A : Type 0} (s : List ℕ) (p : Pieces) (o : Result A) : Result A → Type 0 where
   all-text : AllText s p → Verdict s p o o
-  first-bad : {start : ℕ} → FirstBad s p start → Verdict s p o (refused badText start 0)
+  first-bad : {x n : ℕ} → FirstBad s p x n → Verdict s p o (refused badText (x + n) 0)
 
 -- ---- the same of a handshake, whose strings stand on two streams
 abbrev pub AllTextHeard : (s u : List ℕ) → Heard → Type 0
@@ -130,16 +130,16 @@ AllTextHeard s u (heard d p h) = AllText (pick d u s) p × AllTextHeard s u h
 AllTextHeard s u (failed which place stream) = Unit {0}
 AllTextHeard s u (ended a b) = Unit {0}
 
--- the first decoded string that is not text has its contents here, on this stream
-pub data FirstBadHeard (s u : List ℕ) : Heard → (start stream : ℕ) → Type 0 where
-  in-turn : {d : Bool} {p : Pieces} {h : Heard} {start : ℕ} → FirstBad (pick d u s) p start → FirstBadHeard s u (heard d p h) start (streamOf d)
-  after-turn : {d : Bool} {p : Pieces} {h : Heard} {start stream : ℕ} → AllText (pick d u s) p → FirstBadHeard s u h start stream
-      → FirstBadHeard s u (heard d p h) start stream
+-- the first decoded string that is not text has its contents from x of this stream on, of which n bytes are good
+pub data FirstBadHeard (s u : List ℕ) : Heard → (x n stream : ℕ) → Type 0 where
+  in-turn : {d : Bool} {p : Pieces} {h : Heard} {x n : ℕ} → FirstBad (pick d u s) p x n → FirstBadHeard s u (heard d p h) x n (streamOf d)
+  after-turn : {d : Bool} {p : Pieces} {h : Heard} {x n stream : ℕ} → AllText (pick d u s) p → FirstBadHeard s u h x n stream
+      → FirstBadHeard s u (heard d p h) x n stream
 
--- one of two: o, and every decoded string of both streams is text; 3 at the first that is not, on its stream
+-- one of two: o, and every decoded string of both streams is text; 3 at the first ill-formed sequence of the first that is not, on its stream
 pub data VerdictHeard {A : Type 0} (s u : List ℕ) (h : Heard) (o : Result A) : Result A → Type 0 where
   all-heard : AllTextHeard s u h → VerdictHeard s u h o o
-  first-heard : {start stream : ℕ} → FirstBadHeard s u h start stream → VerdictHeard s u h o (refused badText start stream)
+  first-heard : {x n stream : ℕ} → FirstBadHeard s u h x n stream → VerdictHeard s u h o (refused badText (x + n) stream)
 
 -- what both streams mean: the record of all turns, and both ends
 abbrev pub bothMean : Heard → Both → Both

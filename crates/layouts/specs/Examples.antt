@@ -101,6 +101,11 @@ pitfalls =
     ex (seen (readStringSet (N# 1 ++ N# 1 ++ (0xFF ∷ [])) 0 0)) (3 ∷ 16 ∷ []) ∷
     ex (seen (readStringSet (N# 1 ++ N# 1 ++ (0x61 ∷ [])) 0 0)) (1 ∷ 17 ∷ []) ∷
     ex (seen (readStringSet (N# 1 ++ N# 1 ++ (0x61 ∷ replicate 7 0)) 0 0)) (4 ∷ 8 ∷ []) ∷
+    -- 3 at the first ill-formed sequence: behind aé; at the first byte of a character that the string's end cuts, of an overlong form, of a surrogate
+    ex (seen (readString (N# 5 ++ (0x61 ∷ 0xC3 ∷ 0xA9 ∷ 0xFF ∷ 0x62 ∷ replicate 3 0)) 0)) (3 ∷ 11 ∷ []) ∷
+    ex (seen (readString (N# 3 ++ (0x61 ∷ 0xE2 ∷ 0x82 ∷ replicate 5 0)) 0)) (3 ∷ 9 ∷ []) ∷
+    ex (seen (readString (N# 4 ++ (0x61 ∷ 0xE0 ∷ 0x80 ∷ 0xAF ∷ replicate 4 0)) 0)) (3 ∷ 9 ∷ []) ∷
+    ex (seen (readString (N# 4 ++ (0x61 ∷ 0xED ∷ 0xA0 ∷ 0x80 ∷ replicate 4 0)) 0)) (3 ∷ 9 ∷ []) ∷
     -- a handshake at 1.10 has no more than the daemon's last number, which must be Last: 8 at that number
     ex (told (parseHandshake (N# 0x6e697863 ++ N# 0x10a) (N# 0x6478696f ++ N# 0x126 ++ N# Last) 0)) (0 ∷ 16 ∷ 1 ∷ 10 ∷ []) ∷
     ex (told (parseHandshake (N# 0x6e697863 ++ N# 0x10a) (N# 0x6478696f ++ N# 0x126 ++ N# 0) 0)) (8 ∷ 16 ∷ 1 ∷ []) ∷

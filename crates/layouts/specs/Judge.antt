@@ -4,7 +4,7 @@ use mathlib.Core.List.{List, [], _∷_, _++_}
 use mathlib.Core.Bool.{Bool, true, false, not, _&&_}
 use lib.ListN.{length, take, drop}
 use lib.Dec.{leb}
-use Rattle.text.specs.Prefix.{isText}
+use Rattle.text.specs.Prefix.{goodPrefix, isText}
 use Rattle.layouts.specs.declared.Record.{Record}
 use Rattle.layouts.specs.Primitive.{pick, cutShort, badText, noEntryRoom, noPayloadRoom, Result, ok, refused, onward}
 use Rattle.layouts.specs.Shape.{Role, passed, checked, kept}
@@ -20,15 +20,22 @@ isDecoded kept = true
 unfoldable pub notText : List ℕ → Role → (start len : ℕ) → Bool
 notText s m start len = isDecoded m && not (isText (take len (drop start s)))
 
--- a string: 3 at its contents, then 4 at its length
+-- the end of the contents' longest beginning that is text, from the stream's start
+unfoldable pub textEnd : List ℕ → (start len : ℕ) → ℕ
+textEnd s start len = start + goodPrefix (take len (drop start s))
+
+-- a decoded string that is not text is refused by 3, at its first ill-formed sequence; else as given
+abbrev pub orBad : {A : Type 0} → List ℕ → Role → (start len : ℕ) → Result A → Result A
+orBad s m start len o = pick (notText s m start len) (refused badText (textEnd s start len) 0) o
+
+-- a string: 3, then 4 at its length
 unfoldable pub textTaken : List ℕ → (slots : ℕ) → Record → Role → (start len : ℕ) → Result Record
 textTaken s slots r m start len =
-    pick (notText s m start len) (refused badText start 0)
-    (pick (isKept m && leb slots (r .entries)) (refused noEntryRoom (start - 8) 0) (ok (entered r m)))
+    orBad s m start len (pick (isKept m && leb slots (r .entries)) (refused noEntryRoom (start - 8) 0) (ok (entered r m)))
 
--- a string whose padding is cut short: 3 at its contents, else 1 at the padding
+-- a string whose padding is cut short: 3, then 1 at the padding
 unfoldable pub halfTaken : {A : Type 0} → List ℕ → Role → (start len : ℕ) → Result A
-halfTaken s m start len = pick (notText s m start len) (refused badText start 0) (refused cutShort (start + len) 0)
+halfTaken s m start len = orBad s m start len (refused cutShort (start + len) 0)
 
 -- a chunk: 5 at its length
 unfoldable pub chunkTaken : (room : ℕ) → Record → (start len : ℕ) → Result Record

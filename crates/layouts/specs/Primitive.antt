@@ -67,7 +67,7 @@ cutShort = 1
 abbrev pub tooLong : ℕ
 tooLong = 2
 
--- a decoded string isn't RFC 3629 text: at its contents; writers: the entry's index, 0 for one string
+-- a decoded string isn't RFC 3629 text: at its first ill-formed sequence; writers: the entry's index, 0 for one string
 abbrev pub badText : ℕ
 badText = 3
 

@@ -5,7 +5,7 @@ use mathlib.Core.Path.{_≡_}
 use mathlib.Core.List.{List, [], _++_}
 use mathlib.Core.Bool.{true, false}
 use lib.ListN.{length}
-use Rattle.text.specs.Rfc3629.{Text}
+use Rattle.text.specs.Rfc3629.{Text, IllFormedAt}
 use Rattle.layouts.specs.declared.Record.{Record}
 use Rattle.layouts.specs.Primitive.{numberBytes, limit, padOf, cutShort, tooLong, badText, noEntryRoom, noPayloadRoom, clientMagicWrong, daemonMagicWrong, notLast}
 use Rattle.layouts.specs.Shape.{Target, Role, passed, kept, Tree, ask, say, frames, fail, stop}
@@ -53,9 +53,9 @@ pub data Fault (slots room : ℕ) : Tree → (at : ℕ) → Record → List ℕ 
   -- 2: the length is above 268435456; the length
   too-long : (t : Tree) (at n : ℕ) (r : Record) (u : List ℕ) → Measured t → limit < n → n < 18446744073709551616
       → Fault slots room t at r (numberBytes n ++ u) tooLong at
-  -- 3: a decoded string is not RFC 3629 text; its contents
-  bad-text : (m : Role) (at : ℕ) (k : Unit {0} → Tree) (r : Record) (c u : List ℕ) → length c ≤ limit → isDecoded m ≡ true → (Text c → ⊥)
-      → Fault slots room (say m k) at r (numberBytes (length c) ++ (c ++ u)) badText (at + 8)
+  -- 3: a decoded string is not RFC 3629 text; its first ill-formed sequence
+  bad-text : (m : Role) (at n : ℕ) (k : Unit {0} → Tree) (r : Record) (c u : List ℕ) → length c ≤ limit → isDecoded m ≡ true → IllFormedAt n c
+      → Fault slots room (say m k) at r (numberBytes (length c) ++ (c ++ u)) badText (at + 8 + n)
   -- 4: a kept string has no slot; its length
   no-slot : (at : ℕ) (k : Unit {0} → Tree) (r : Record) (c pad u : List ℕ) → length c ≤ limit → length pad ≡ padOf (length c) → Text c → slots ≤ r .entries
       → Fault slots room (say kept k) at r (numberBytes (length c) ++ (c ++ (pad ++ u))) noEntryRoom at

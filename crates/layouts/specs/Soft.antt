@@ -6,11 +6,11 @@ use mathlib.Core.Bool.{Bool, true, false, _&&_, _||_}
 use lib.ListN.{length, getD}
 use lib.Dec.{ltb, leb}
 use Rattle.layouts.specs.declared.Record.{Record}
-use Rattle.layouts.specs.Primitive.{pick, numberAt, padOf, version, badText, Result, ok, refused, onward}
+use Rattle.layouts.specs.Primitive.{pick, numberAt, padOf, version, Result, ok, refused, onward}
 use Rattle.layouts.specs.Shape.{Group, layout}
 use Rattle.layouts.specs.Pieces.{Pieces, number, text, half, chunk, end, fault, run, skipOf}
 use Rattle.layouts.specs.Record.{blank, isKept, recordOf}
-use Rattle.layouts.specs.Judge.{notText}
+use Rattle.layouts.specs.Judge.{orBad}
 use Rattle.layouts.specs.Stderr.{Message, noCode, terminal, goes, messageOf, stderrLoop, errorPieces}
 use Rattle.layouts.specs.Handshake.{Heard, heard, failed, ended, streamOf, onStream, Both}
 
@@ -40,15 +40,11 @@ keptOf (chunk start len p) = keptOf p
 keptOf (end place) = 0
 keptOf (fault which place) = 0
 
--- refused by 3 at the contents of the first decoded string that is not text; else as given
-abbrev pub orBad : {A : Type 0} → Bool → (start : ℕ) → Result A → Result A
-orBad true start o = refused badText start 0
-orBad false start o = o
-
+-- refused by 3 in the first decoded string that is not text; else as given
 unfoldable pub unlessBad : {A : Type 0} → List ℕ → Pieces → Result A → Result A
 unlessBad s (number i place n p) o = unlessBad s p o
-unlessBad s (text m start len p) o = orBad (notText s m start len) start (unlessBad s p o)
-unlessBad s (half m start len) o = orBad (notText s m start len) start o
+unlessBad s (text m start len p) o = orBad s m start len (unlessBad s p o)
+unlessBad s (half m start len) o = orBad s m start len o
 unlessBad s (chunk start len p) o = unlessBad s p o
 unlessBad s (end place) o = o
 unlessBad s (fault which place) o = o

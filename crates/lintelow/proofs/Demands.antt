@@ -296,7 +296,7 @@ module _ (κs : Lfts 2) (a : Dens κs skip-daemon-result-kinds.ps) (r : ℕ) (x 
           q .1 .0 ∙ ap (λ (y : Result L.Answer). blockAfter (blockAt a′) (answerAs y)) read-said,
         )
 
-        -- every decoded string of s' is text, and reading tells what the bytes of s mean, up to the same end; or 3 at the first that is not
+        -- every decoded string of s' is text, and reading tells what the bytes of s mean, up to the same end; or 3 in the first that is not
         pub soft-judged : (o : Result L.Answer) × Tells (answerAs o) (blockAt a′) r′ (blockAt x′) × Verdict (streamOf a′) (replyIn a) meaning o
         soft-judged = (said, tells-said, unless-bad (streamOf a′) (replyIn a) meaning)
 

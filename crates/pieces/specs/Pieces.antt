@@ -4,11 +4,11 @@ use mathlib.Core.List.{List}
 use mathlib.Core.Bool.{Bool, true, false}
 use lib.ListN.{length}
 use lib.Dec.{leb}
-use Rattle.layouts.specs.Primitive.{pick, littleAt, numberAt, badText, Result, ok, refused}
+use Rattle.layouts.specs.Primitive.{pick, littleAt, numberAt, Result, ok, refused}
 use Rattle.layouts.specs.Refusal.{refusedBy, plain}
 use Rattle.layouts.specs.Shape.{Role, passed, kept}
 use Rattle.layouts.specs.Pieces.{Num, value, short, Text, whole, cut, bad, Chunk, part, last, wrong, textOf}
-use Rattle.layouts.specs.Judge.{notText, halfTaken}
+use Rattle.layouts.specs.Judge.{notText, textEnd, orBad, halfTaken}
 use Rattle.numbers.specs.declared.Number.{Number}
 use Rattle.numbers.specs.declared.Number.the-variants.{Value, Short}
 use Rattle.pieces.specs.declared.Text as T
@@ -55,9 +55,13 @@ abbrev pub roleOf : (decoded : Bool) → Role
 roleOf true = kept
 roleOf false = passed
 
--- a string as it is judged: 3 at its contents before 1 at its padding
+-- where the text of a string ends: with its contents, unless it is not text
+unfoldable pub textTo : List ℕ → Role → (start len : ℕ) → ℕ
+textTo s m start len = pick (notText s m start len) (textEnd s start len) (start + len)
+
+-- a string as it is judged: 3 before 1 at its padding
 unfoldable pub spanOf : List ℕ → Role → Text → Result Span
-spanOf s m (whole start len next) = pick (notText s m start len) (refused badText start 0) (ok (span start len next))
+spanOf s m (whole start len next) = orBad s m start len (ok (span start len next))
 spanOf s m (cut start len) = halfTaken s m start len
 spanOf s m (bad which place) = refused which place 0
 

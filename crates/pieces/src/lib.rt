@@ -1,13 +1,11 @@
 // One piece at a place of a stream: a number, a string, a chunk. A part is handed on only after a test that the stream has it, so no place is too large.
 ghost use mathlib.Core.Path.{_≡_};
 ghost use Prim.Native.Nat.{_+_, _<_, _≤_};
-ghost use mathlib.Core.Bool.{not};
 ghost use lib.ListN.{length};
 ghost use Rattle.layouts.specs.Primitive.{numberAt, padOf};
 ghost use Rattle.layouts.specs.Pieces.{textOf, chunkOf};
-ghost use Rattle.layouts.specs.Judge.{notText};
 ghost use Rattle.layouts.specs.Calls.{peekNumber};
-ghost use Rattle.pieces.specs.Pieces.{numRead, wordAt, textFound, chunkFound, judgedRead, roleOf, stringAt};
+ghost use Rattle.pieces.specs.Pieces.{numRead, wordAt, textFound, chunkFound, judgedRead, roleOf, textTo, stringAt};
 use layouts::Refusal;
 use numbers::Number;
 
@@ -123,16 +121,16 @@ pub fn chunk_at(s: &[u8], at: usize) -> Chunk
     }
 }
 
-// Only a string that is decoded has its text judged.
-fn is_fine(s: &[u8], start: usize, len: usize, decoded: bool) -> bool
+// Where the text of a string ends: with its contents, or earlier. Only a string that is decoded has its text judged.
+fn text_to(s: &[u8], start: usize, len: usize, decoded: bool) -> usize
     requires { ⌜ start + len ≤ length (now s) ⌝ }
-    ensures { λ r. ⌜ r ≡ not (notText (now (s .entry)) (roleOf decoded) start len) ⌝ }
+    ensures { λ r. ⌜ r ≡ textTo (now (s .entry)) (roleOf decoded) start len ⌝ }
 {
+    let end = start + len;
     if decoded {
-        let end = start + len;
-        return text::is_text(&s[start..end]);
+        return start + text::text_end(&s[start..end]);
     }
-    true
+    end
 }
 
 // A string with its text judged where it is decoded: before the padding, after the contents.
@@ -141,16 +139,18 @@ pub fn string_at(s: &[u8], at: usize, decoded: bool) -> Verdict
 {
     match text_at(s, at) {
         Text::Whole { start, len, next } => {
-            if is_fine(s, start, len, decoded) {
-                return Verdict::Fine { start, len, next };
+            let to = text_to(s, start, len, decoded);
+            if to < start + len {
+                return Verdict::Refused(layouts::refuse(layouts::BAD_TEXT, to));
             }
-            Verdict::Refused(layouts::refuse(layouts::BAD_TEXT, start))
+            Verdict::Fine { start, len, next }
         }
         Text::Half { start, len } => {
-            if is_fine(s, start, len, decoded) {
-                return Verdict::Refused(layouts::refuse(layouts::CUT_SHORT, start + len));
+            let to = text_to(s, start, len, decoded);
+            if to < start + len {
+                return Verdict::Refused(layouts::refuse(layouts::BAD_TEXT, to));
             }
-            Verdict::Refused(layouts::refuse(layouts::BAD_TEXT, start))
+            Verdict::Refused(layouts::refuse(layouts::CUT_SHORT, start + len))
         }
         Text::Bad(r) => Verdict::Refused(r),
     }

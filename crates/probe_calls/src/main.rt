@@ -281,6 +281,23 @@ fn conversations() {
     );
 }
 
+// A bad byte behind three good ones: in arguments, which are read and skipped, and in a reply; in an error's message, whose last character the string's end cuts; and
+// in a feature of each side.
+fn bad_bytes() {
+    let s = b"\x05\0\0\0\0\0\0\0a\xC3\xA9\xFFb\0\0\0";
+    line(0, 1, s);
+    line(1, 1, s);
+    line(2, 18, s);
+    line(3, 18, s);
+    stopped(
+        b"ptxc\0\0\0\0\x05\0\0\0\0\0\0\0Error\0\0\0\x01\0\0\0\0\0\0\0\0\0\0\0\0\0\0\0\x06\0\0\0\0\0\0\0damp\xE2\x82\0\0\0\0\0\0\0\0\0\0",
+    );
+    greeted(
+        b"cxin\0\0\0\0&\x01\0\0\0\0\0\0\x01\0\0\0\0\0\0\0\x04\0\0\0\0\0\0\0bin\xFF\0\0\0\0\0\0\0\0\0\0\0\0\0\0\0\0\0\0\0\0",
+        b"oixd\0\0\0\0&\x01\0\0\0\0\0\0\x01\0\0\0\0\0\0\0\x04\0\0\0\0\0\0\0sil\xFF\0\0\0\0",
+    );
+}
+
 fn main() {
     say(b"zeros\n");
     let mut s = [0u8; 256];
@@ -290,4 +307,6 @@ fn main() {
     operations(&s);
     say(b"conversations\n");
     conversations();
+    say(b"bad bytes\n");
+    bad_bytes();
 }

@@ -200,14 +200,14 @@ module _ (κs : Lfts 1) (a : Dens κs skip-daemon-result-kinds.ps) (x : AtExit (
       abbrev meaning : Result Answer
       meaning = meaningOf (versionOf a) (replyKinds (opOf a)) (replyIn a) ends
 
-      -- reading s' ends there too, with what the bytes of s mean, or is refused by 3 at the first string that is no text
+      -- reading s' ends there too, with what the bytes of s mean, or is refused by 3 in the first string that is no text
       pub soft-answered : r ≡ answerAs (unlessBad (streamOf a′) (replyIn a) meaning)
       soft-answered =
           let n = length (entriesAt a′) / 2 in
           let m = length (payloadAt a′) in
           q .0 ∙ ap answerAs (same-as (λ op w. readDaemonResult op w (streamOf a′) n m) o v ∙ soft-read-reply (opOf a) (versionOf a) (streamOf a) (streamOf a′) soft n m ends skips slots room)
 
-      -- in RFC 3629's words: every decoded string of s' is text, and the answer is what the bytes of s mean; or 3 at the first that is not
+      -- in RFC 3629's words: every decoded string of s' is text, and the answer is what the bytes of s mean; or 3 in the first that is not
       pub soft-judged : (said : Result Answer) × (r ≡ answerAs said) × Verdict (streamOf a′) (replyIn a) meaning said
       soft-judged = (unlessBad (streamOf a′) (replyIn a) meaning, soft-answered, unless-bad (streamOf a′) (replyIn a) meaning)
 
@@ -247,7 +247,7 @@ module _ (κs : Lfts 3) (a : Dens κs read-op-args-kinds.ps) (r : C.Answer) (x :
   pub soft-followed-arguments : drop (r .ends) (streamOf a′) ≡ drop (r .ends) (streamOf a)
   soft-followed-arguments = soft-rest-arguments (opOf a) (versionOf a) (streamOf a) (streamOf a′) soft (r .ends) (meant .0)
 
-  -- with room for all: every decoded string of s' is text, and the answer is as before; or 3 at the first that is not
+  -- with room for all: every decoded string of s' is text, and the answer is as before; or 3 in the first that is not
   pub soft-judged-arguments : keptOf (argumentsIn a) ≤ length (entriesAt a′) / 2 → totalOf (argumentsIn a) ≤ length (payloadAt a′)
       → (said : Result Answer) × (r′ ≡ answerAs said) × Verdict (streamOf a′) (argumentsIn a) (ok before) said
   soft-judged-arguments slots room =

@@ -153,7 +153,7 @@ module _ (κs : Lfts 2) (a : Dens κs read-stderr-with-error-kinds.ps) (r : Answ
   pub soft-followed-error : drop (r .ends) (streamOf a′) ≡ drop (r .ends) (streamOf a)
   soft-followed-error = soft-rest-error (streamOf a) (streamOf a′) soft (meant .0) (meant .1) (r .ends) (meant .2 .0)
 
-  -- with room for its entries: every decoded string of s' is text, and the answer is as before; or 3 at the first that is not
+  -- with room for its entries: every decoded string of s' is text, and the answer is as before; or 3 in the first that is not
   pub soft-judged-error : keptOf (blockIn a) ≤ length (entriesAt a′) / 2
       → (said : Result L.Answer) × (r′ ≡ answerAs said) × Verdict (streamOf a′) (blockIn a) (ok (saidBy r)) said
   soft-judged-error slots = (

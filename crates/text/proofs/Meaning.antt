@@ -1,16 +1,17 @@
 -- What `goodPrefix` means: the beginning of that length is text (`good-text`), no longer one is (`text-good`), and it is the whole list exactly where
--- the list is text (`whole-text`, `text-whole`), also as a test (`is-text`, `text-is`). And the step by which code computes it (`step`, `stuck`).
+-- the list is text (`whole-text`, `text-whole`), also as a test (`is-text`, `text-is`); else it is where the first ill-formed sequence begins (`ill-formed`,
+-- `ill-formed-at`). And the step by which code computes it (`step`, `stuck`).
 use Prim.Native.Nat.{ℕ, zero, suc, _+_, _≤_}
 use mathlib.Core.List.{List, [], _∷_, _++_, append-assoc}
 use mathlib.Core.Path.{_≡_, refl, sym, ap, _∙_}
 use native.Mathlib.Omega.{arith}
 use native.Mathlib.Nat.{zero-add}
-use native.Mathlib.Decide.{ℕ-discrete}
+use native.Mathlib.Decide.{ℕ-discrete, decLe}
 use mathlib.Core.Bool.{Bool, true, false}
-use borrow.Author.Tests.{eqb-true, eq-eqb, ne-eqb}
+use borrow.Author.Tests.{eqb-true, eqb-false, eq-eqb, ne-eqb}
 use lib.ListN.{length, take, drop, length-append, length-drop, take-append-drop}
 use lib.Seq.{length-take-le, take-add, take-length, drop-append-seam}
-use Rattle.text.specs.Rfc3629.{Text, Judged}
+use Rattle.text.specs.Rfc3629.{Text, Judged, IllFormedAt}
 use Rattle.text.specs.Rfc3629.Text.{none, more}
 use Rattle.text.specs.Prefix.{charLength, first, goodPrefix, isText}
 use Rattle.text.proofs.Chars.{Begins, begins, char-length}
@@ -114,3 +115,22 @@ pub judged-is : (b : Bool) (s : List ℕ) → Judged b s → b ≡ isText s
 unfolding isText
 judged-is true s x = sym (text-is s x)
 judged-is false s x = sym (ne-eqb (goodPrefix s) (length s) (λ e. x (whole-text s e)))
+
+-- ---- what is not text is good up to its first ill-formed sequence
+pub ill-formed : (s : List ℕ) → isText s ≡ false → IllFormedAt (goodPrefix s) s
+unfolding isText
+ill-formed s e =
+    let n = eqb-false (goodPrefix s) (length s) e in
+    record { inside = omega (arith, good-within s); good = good-text s; longest = λ m h l t. omega (arith, text-good s m l t) }
+
+module _ {n : ℕ} {s : List ℕ} (x : IllFormedAt n s) where
+  pub ill-formed-at : goodPrefix s ≡ n
+  ill-formed-at = by (decLe (goodPrefix s) n)
+    where
+      by : Dec (goodPrefix s ≤ n) → goodPrefix s ≡ n
+      by (yes h) = omega (arith, text-good s n (omega arith) (x .good))
+      by (no h) = absurd (x .longest (goodPrefix s) (omega arith) (good-within s) (good-text s))
+
+  pub not-text : isText s ≡ false
+  unfolding isText
+  not-text = ne-eqb (goodPrefix s) (length s) (omega (arith, ill-formed-at))

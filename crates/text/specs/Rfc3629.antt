@@ -1,8 +1,9 @@
 -- RFC 3629: section 4's grammar, a type to a rule, a constructor to an alternative, in the RFC's order; and section 3's table. `%x80-BF` is `In 0x80 0xBF`.
-use Prim.Native.Nat.{ℕ, _+_, _/_, _%_, _≤_}
+use Prim.Native.Nat.{ℕ, _+_, _/_, _%_, _≤_, _<_}
 use mathlib.Core.Path.{_≡_}
 use mathlib.Core.Bool.{Bool, true, false, cond}
 use mathlib.Core.List.{List, [], _∷_, _++_}
+use lib.ListN.{length, take}
 use lib.Dec.{leb}
 
 pub record In (low high octet : ℕ) : Type 0 where
@@ -51,6 +52,12 @@ pub data Text : List ℕ → Type 0 where
 abbrev pub Judged : Bool → List ℕ → Type 0
 Judged true s = Text s
 Judged false s = Text s → ⊥
+
+-- the first ill-formed sequence begins at n: the octets up to there are text, and no longer beginning is
+pub record IllFormedAt (n : ℕ) (s : List ℕ) : Type 0 where
+  pub inside : n < length s
+  pub good : Text (take n s)
+  pub longest : (m : ℕ) → n < m → m ≤ length s → Text (take m s) → ⊥
 
 -- ---- Section 3
 -- the character numbers that UTF-8 encodes: 0 to 10FFFF, without the surrogates

@@ -2,60 +2,64 @@
 use Prim.Native.Nat.{ℕ, zero, suc, _+_, _-_, _*_, _≤_, _<_}
 use mathlib.Core.Path.{_≡_, refl, _∙_, ap}
 use mathlib.Core.List.{List, [], _∷_}
-use mathlib.Core.Bool.{Bool, true, false, not}
-use lib.ListN.{set, take, drop}
+use mathlib.Core.Bool.{false}
+use lib.ListN.{length, set, take, drop}
 use lib.Seq.{sets}
 use borrow.Author.Tests.{le-leb, lt-leb}
 use native.Mathlib.Omega.{arith}
-use Rattle.text.specs.Rfc3629.{Judged}
-use Rattle.text.proofs.Meaning.{judged-is}
+use Rattle.text.specs.Prefix.{goodPrefix}
 use Rattle.layouts.specs.declared.Record.{Record}
 use Rattle.layouts.specs.Primitive.{Result, ok}
 use Rattle.layouts.specs.declared.Refusal.{Refusal}
 use Rattle.layouts.specs.Refusal.{plain, refusedBy}
 use Rattle.layouts.specs.Record.{isKept, entered, withEntries, withPayload}
-use Rattle.layouts.specs.Judge.{Ended, notText, textTaken, halfTaken, chunkTaken, entry}
+use Rattle.layouts.specs.Judge.{isDecoded, Ended, textTaken, halfTaken, chunkTaken, entry}
+use Rattle.pieces.specs.Pieces.{textTo}
+use Rattle.pieces.proofs.Strings.{text-passed, text-decoded, ends-early, ends-with}
 use Rattle.table.specs.Table.{roleOf}
 use Rattle.table.proofs.Roles.{kept-from, kept-below, decoded-some}
 use Rattle.walk_take.specs.Taking.{inWindow}
 
+passed-none : (role : ℕ) → role ≡ 0 → isDecoded (roleOf role) ≡ false
+unfolding roleOf
+passed-none role e = rw e
+
 module _ (s : List ℕ) (role start len : ℕ) where
-  pub any-text : role ≡ 0 → false ≡ notText s (roleOf role) start len
-  unfolding notText roleOf
-  any-text e = rw e
+  pub any-text : role ≡ 0 → start + len ≡ textTo s (roleOf role) start len
+  any-text z = text-passed s (roleOf role) start len (passed-none role z)
 
-  pub text-judged : (b : Bool) → (role ≡ 0 → ⊥) → Judged b (take (start + len - start) (drop start s)) → not b ≡ notText s (roleOf role) start len
-  unfolding notText
-  text-judged b z j =
-      let k : start + len - start ≡ len = omega arith in
-      rw (decoded-some role z) (ap not (judged-is b (take len (drop start s)) (rw k at j)))
+  pub text-judged : (n : ℕ) → (role ≡ 0 → ⊥) → start + len ≤ length s → n ≡ goodPrefix (take (start + len - start) (drop start s))
+      → start + n ≡ textTo s (roleOf role) start len
+  text-judged n z h e = text-decoded s (roleOf role) start len n (decoded-some role z) h e
 
-  -- n entries before it
-  module _ (slots n : ℕ) (b : Bool) (e : b ≡ notText s (roleOf role) start len) (r : Record) (z : r .entries ≡ n) where
-    pub text-bad : (x : Refusal) → x ≡ plain 3 start → b ≡ true → refusedBy x ≡ textTaken s slots r (roleOf role) start len
-    unfolding textTaken
-    text-bad x p q = rw (p, ← e, q)
+  module _ (to : ℕ) (e : to ≡ textTo s (roleOf role) start len) where
+    -- n entries before it
+    module _ (slots n : ℕ) (r : Record) (z : r .entries ≡ n) where
+      pub text-bad : (x : Refusal) → x ≡ plain 3 to → to < start + len → refusedBy x ≡ textTaken s slots r (roleOf role) start len
+      unfolding textTaken
+      text-bad x p l = let q = ends-early s (roleOf role) start len to e l in rw (p, q .0, q .1)
 
-    pub text-passed : b ≡ false → role < 2 → ok (withEntries r n) ≡ textTaken s slots r (roleOf role) start len
-    unfolding textTaken entered
-    text-passed q h = rw (← e, q, kept-below role h, z)
+      pub text-passed-over : start + len ≤ to → role < 2 → ok (withEntries r n) ≡ textTaken s slots r (roleOf role) start len
+      unfolding textTaken entered
+      text-passed-over l h = rw (ends-with s (roleOf role) start len to e l, kept-below role h, z)
 
-    pub text-full : (x : Refusal) (place : ℕ) → x ≡ plain 4 place → place ≡ start - 8 → b ≡ false → 2 ≤ role → slots ≤ n → refusedBy x ≡ textTaken s slots r (roleOf role) start len
-    unfolding textTaken
-    text-full x place o p q h g = rw (o, p, ← e, q, kept-from role h, z, le-leb slots n g)
+      pub text-full : (x : Refusal) (place : ℕ) → x ≡ plain 4 place → place ≡ start - 8 → start + len ≤ to → 2 ≤ role → slots ≤ n
+          → refusedBy x ≡ textTaken s slots r (roleOf role) start len
+      unfolding textTaken
+      text-full x place o p l h g = rw (o, p, ends-with s (roleOf role) start len to e l, kept-from role h, z, le-leb slots n g)
 
-    pub text-kept : b ≡ false → 2 ≤ role → n < slots → ok (withEntries r (n + 1)) ≡ textTaken s slots r (roleOf role) start len
-    unfolding textTaken entered
-    text-kept q h g = rw (← e, q, kept-from role h, z, lt-leb slots n g)
+      pub text-kept : start + len ≤ to → 2 ≤ role → n < slots → ok (withEntries r (n + 1)) ≡ textTaken s slots r (roleOf role) start len
+      unfolding textTaken entered
+      text-kept l h g = rw (ends-with s (roleOf role) start len to e l, kept-from role h, z, lt-leb slots n g)
 
-  module _ (b : Bool) (e : b ≡ notText s (roleOf role) start len) (x : Refusal) where
-    pub half-bad : x ≡ plain 3 start → b ≡ true → _≡_ {A = Result Ended} (refusedBy x) (halfTaken s (roleOf role) start len)
-    unfolding halfTaken
-    half-bad p q = rw (p, ← e, q)
+    module _ (x : Refusal) where
+      pub half-bad : x ≡ plain 3 to → to < start + len → _≡_ {A = Result Ended} (refusedBy x) (halfTaken s (roleOf role) start len)
+      unfolding halfTaken
+      half-bad p l = let q = ends-early s (roleOf role) start len to e l in rw (p, q .0, q .1)
 
-    pub half-cut : x ≡ plain 1 (start + len) → b ≡ false → _≡_ {A = Result Ended} (refusedBy x) (halfTaken s (roleOf role) start len)
-    unfolding halfTaken
-    half-cut p q = rw (p, ← e, q)
+      pub half-cut : x ≡ plain 1 (start + len) → start + len ≤ to → _≡_ {A = Result Ended} (refusedBy x) (halfTaken s (roleOf role) start len)
+      unfolding halfTaken
+      half-cut p l = rw (p, ends-with s (roleOf role) start len to e l)
 
   -- ---- and the window
   module _ (w : List ℕ) (n : ℕ) where

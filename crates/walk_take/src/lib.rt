@@ -9,7 +9,8 @@ ghost use Rattle.layouts.specs.Refusal.{refusedBy};
 ghost use Rattle.layouts.specs.declared.Record.{Record};
 ghost use Rattle.layouts.specs.Shape.{ask, say, dropped};
 ghost use Rattle.layouts.specs.Record.{withEntries, withPayload};
-ghost use Rattle.layouts.specs.Judge.{Ended, notText, textTaken, halfTaken, chunkTaken};
+ghost use Rattle.layouts.specs.Judge.{Ended, textTaken, halfTaken, chunkTaken};
+ghost use Rattle.pieces.specs.Pieces.{textTo};
 ghost use Rattle.table.specs.Table.{roleOf};
 ghost use Rattle.walk_strings.specs.Strings.{series};
 ghost use Rattle.walk_take.specs.Taking.{inWindow, taken, TakenIn, Takes, SeriesFrom, SeriesTook, TakesFrames};
@@ -44,16 +45,16 @@ fn place_of(start: usize) -> usize
     start - 8
 }
 
-// Contents that are to be text and are not.
-fn is_bad(s: &[u8], role: u8, start: usize, len: usize) -> bool
+// Where the text of a string ends: with its contents, or earlier where it is to be text and is not.
+fn text_to(s: &[u8], role: u8, start: usize, len: usize) -> usize
     requires { ⌜ start + len ≤ length (now s) ⌝ }
-    ensures { λ r. ⌜ r ≡ notText (now (s .entry)) (roleOf role) start len ⌝ }
+    ensures { λ r. ⌜ r ≡ textTo (now (s .entry)) (roleOf role) start len ⌝ }
 {
-    if role == table::PASSED {
-        return false;
-    }
     let end = start + len;
-    !text::is_text(&s[start..end])
+    if role == table::PASSED {
+        return end;
+    }
+    start + text::text_end(&s[start..end])
 }
 
 // The entry of a string with n entries before it, as far as the window goes.
@@ -81,8 +82,9 @@ fn take_text(
     ensures law { λ o. ⌜ ((r : Record) → r .entries ≡ n → taken (withEntries r) o ≡ textTaken (now (s .entry)) slots r (roleOf role) start len) ⌝ }
     ensures window { λ o. ⌜ TakenIn (now (window .entry)) n (roleOf role) start len (now (window .exit)) o ⌝ }
 {
-    if is_bad(s, role, start, len) {
-        return Taken::Refused(layouts::refuse(layouts::BAD_TEXT, start));
+    let to = text_to(s, role, start, len);
+    if to < start + len {
+        return Taken::Refused(layouts::refuse(layouts::BAD_TEXT, to));
     }
     if role < table::KEPT {
         return Taken::Fine(n);
@@ -99,8 +101,9 @@ fn half_string(s: &[u8], role: u8, start: usize, len: usize) -> Refusal
     requires { ⌜ start + len ≤ length (now s) ⌝ }
     ensures { λ r. ⌜ _≡_ {A = Result Ended} (refusedBy r) (halfTaken (now (s .entry)) (roleOf role) start len) ⌝ }
 {
-    if is_bad(s, role, start, len) {
-        return layouts::refuse(layouts::BAD_TEXT, start);
+    let to = text_to(s, role, start, len);
+    if to < start + len {
+        return layouts::refuse(layouts::BAD_TEXT, to);
     }
     layouts::refuse(layouts::CUT_SHORT, start + len)
 }

@@ -106,6 +106,7 @@ pub struct Refusal {
     /// 1 to 14; [`Refusal::meaning`] says what it means.
     pub number: u64,
     /// The place in the part of the stream that was given; of refusals 11 and 12, and of a set or call that is written, an index or a count.
+    /// Of 3 it is where the string's text ends: cut there, the stream is refused by 1 at the string's contents.
     pub place: usize,
     /// 1 for the daemon's stream of a handshake, else 0.
     pub stream: u64,

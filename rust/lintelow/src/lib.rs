@@ -32,6 +32,12 @@
 //!     refusal.to_string(),
 //!     "refusal 1 at 41: cut short: a number, contents, padding or chunk needs more bytes than remain"
 //! );
+//!
+//! // A byte that is no text is the place itself. Cut there, the stream is refused at the string's contents, so two bytes of it are good.
+//! stream[34] = 0xff;
+//! let refused = |stream: &[u8]| read_daemon_result(6, Version::new(1, 38), stream).map_err(|refusal| (refusal.number, refusal.place));
+//! assert_eq!(refused(&stream), Err((3, 34)));
+//! assert_eq!(refused(&stream[..34]), Err((1, 32)));
 //! # Ok::<(), lintelow::Refusal>(())
 //! ```
 //!

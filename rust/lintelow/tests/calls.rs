@@ -215,6 +215,37 @@ fn refusals_have_number_and_place() {
     }
 }
 
+/// A byte behind nothing and behind several good ones, a character that the string's end cuts, an overlong form, a surrogate: with the bytes before it.
+const BAD: [(&[u8], usize); 5] = [(b"\xff", 0), (b"a\xc3\xa9\xffb", 3), (b"ab\xe2\x82", 2), (b"a\xe0\x80\xaf", 1), (b"a\xed\xa0\x80", 1)];
+
+#[test]
+fn bad_text_is_refused_where_text_ends() {
+    const HELLO: u64 = 0x6e697863;
+    const REPLY: u64 = 0x6478696f;
+    type Reader = fn(&[u8]) -> Option<Refusal>;
+    // What stands before the string, and the stream.
+    let readers: [(Vec<u8>, u64, Reader); 9] = [
+        (string("suffix"), 0, |s| read_op_args(8, NEW, s).err()),
+        (vec![], 0, |s| skip_op_args(1, NEW, s).err()),
+        ([numbers(&[2]), string("first")].concat(), 0, |s| read_daemon_result(6, NEW, s).err()),
+        ([numbers(&[0x63787470]), string("Error"), numbers(&[0]), string("name")].concat(), 0, |s| read_stderr_with_error(s).err()),
+        (numbers(&[HELLO, 0x126, 1]), 0, |s| parse_handshake(s, &numbers(&[REPLY, 0x126])).err()),
+        (numbers(&[REPLY, 0x126, 1]), 1, |s| parse_handshake(&numbers(&[HELLO, 0x126, 0, 0, 0]), s).err()),
+        (numbers(&[REPLY, 0x126, 0]), 1, |s| parse_daemon_handshake(NEW, s).err()),
+        (vec![], 0, |s| wire::read_string(s, 0).err()),
+        (numbers(&[1]), 0, |s| wire::read_string_set(s, 0).err()),
+    ];
+    for (before, stream, reader) in readers {
+        for (bad, good) in BAD {
+            let start = before.len() + 8;
+            let all = [before.clone(), string(bad)].concat();
+            assert_eq!(reader(&all), Some(refused(3, start + good, stream)));
+            assert_eq!(reader(&all[..start + bad.len()]), Some(refused(3, start + good, stream)), "without padding");
+            assert_eq!(reader(&all[..start + good]), Some(refused(1, start, stream)), "cut where its text ends");
+        }
+    }
+}
+
 #[test]
 fn a_refusal_says_what_it_means() {
     let error: Box<dyn std::error::Error> = Box::new(refused(8, 24, 1));

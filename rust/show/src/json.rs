@@ -98,7 +98,7 @@ fn call(call: &Call) -> Object {
 
 fn refused(refused: &Refused) -> Object {
     let number = |number: Option<u64>| number.map_or("null".to_owned(), |number| number.to_string());
-    Object::new()
+    let told = Object::new()
         .text("event", "refusal")
         .raw("call", &number(refused.call))
         .raw("op", &number(refused.op))
@@ -106,7 +106,11 @@ fn refused(refused: &Refused) -> Object {
         .number("refusal", refused.refusal.number)
         .text("meaning", refused.refusal.meaning())
         .text("stream", refused.side.name())
-        .number("place", refused.place as u64)
+        .number("place", refused.place as u64);
+    match &refused.good {
+        Some(good) => told.range("good", good),
+        None => told,
+    }
 }
 
 fn unfollowed(unfollowed: &Unfollowed) -> Object {

@@ -104,6 +104,8 @@ pub struct Refused {
     /// Counted from the start of that side's stream.
     pub place: usize,
     pub refusal: Refusal,
+    /// Of a string that is no text: its beginning that is, up to the place.
+    pub good: Option<Bytes>,
 }
 
 /// A call whose arguments the library does not read: what comes after it can't be placed.
@@ -136,6 +138,7 @@ pub struct End {
     pub left: Bytes,
 }
 
+const BAD_TEXT: u64 = 3;
 const UNKNOWN_OPERATION: u64 = 9;
 
 /// A session is read as its events are asked for.
@@ -171,8 +174,12 @@ impl<'s> Session<'s> {
             }
             Err(refusal) => {
                 self.over = true;
-                let side = if refusal.stream == 1 { Side::Daemon } else { Side::Client };
-                Event::Stop(Stop::Refused(Refused { part: Part::Handshake, call: None, op: None, side, place: refusal.place, refusal }))
+                let (side, good) = if refusal.stream == 1 {
+                    (Side::Daemon, good_text(&refusal, |end| lintelow::parse_handshake(self.client, &self.daemon[..end])))
+                } else {
+                    (Side::Client, good_text(&refusal, |end| lintelow::parse_handshake(&self.client[..end], self.daemon)))
+                };
+                Event::Stop(Stop::Refused(Refused { part: Part::Handshake, call: None, op: None, side, place: refusal.place, refusal, good }))
             }
         }
     }
@@ -187,8 +194,8 @@ impl<'s> Session<'s> {
             }
             Err(refusal) => {
                 self.over = true;
-                let call = Some(self.calls);
-                return Event::Stop(Stop::Refused(Refused { part: Part::Number, call, op: None, side: Side::Client, place: refusal.place, refusal }));
+                let (call, side, place) = (Some(self.calls), Side::Client, refusal.place);
+                return Event::Stop(Stop::Refused(Refused { part: Part::Number, call, op: None, side, place, refusal, good: None }));
             }
         };
         let mut call = Call { index: self.calls, op, version, number: start..self.said, arguments: None, messages: None, outcome: None };
@@ -212,26 +219,23 @@ impl<'s> Session<'s> {
 
     fn arguments(&mut self, call: &Call) -> Result<Arguments, Stop> {
         let start = self.said;
-        let stream = &self.client[start..];
         let unfollowed = |known| {
             let Call { index, op, version, .. } = *call;
             Stop::Unfollowed(Unfollowed { call: index, op, version, known, client: start, daemon: self.answered })
         };
-        let read = match library::read_op_args(call.op, call.version, stream) {
-            Ok(read) => read,
-            Err(refusal) if refusal.number == UNKNOWN_OPERATION => return Err(unfollowed(false)),
-            Err(refusal) => return Err(refused(call, Part::Arguments, Side::Client, start, refusal)),
+        let read = match self.read(call, Part::Arguments, start, |stream| library::read_op_args(call.op, call.version, stream)) {
+            Err(Stop::Refused(refused)) if refused.refusal.number == UNKNOWN_OPERATION => return Err(unfollowed(false)),
+            read => read?,
         };
         let Some(op_call) = read.value else { return Err(unfollowed(true)) };
-        let fixed = lintelow::skip_op_args(call.op, call.version, stream).map_or(read.end, |(_, end)| end);
+        let fixed = lintelow::skip_op_args(call.op, call.version, &self.client[start..]).map_or(read.end, |(_, end)| end);
         self.said = start + read.end;
         Ok(Arguments { bytes: start..self.said, fixed_end: start + fixed, call: op_call, payload: read.payload })
     }
 
     fn messages(&mut self, call: &Call) -> Result<Messages, Stop> {
         let start = self.answered;
-        let (result, end) =
-            lintelow::read_stderr_loop(&self.daemon[start..]).map_err(|refusal| refused(call, Part::Messages, Side::Daemon, start, refusal))?;
+        let (result, end) = self.read(call, Part::Messages, start, lintelow::read_stderr_loop)?;
         self.answered = start + end;
         Ok(Messages { bytes: start..self.answered, count: result.count, terminal: result.terminal })
     }
@@ -239,23 +243,37 @@ impl<'s> Session<'s> {
     /// What follows the message Error, which the library reads together with the messages.
     fn error(&mut self, call: &Call, messages: Bytes) -> Result<Option<Outcome>, Stop> {
         let start = messages.start;
-        let (_, info, end) =
-            lintelow::read_stderr_with_error(&self.daemon[start..]).map_err(|refusal| refused(call, Part::Error, Side::Daemon, start, refusal))?;
+        let (_, info, end) = self.read(call, Part::Error, start, lintelow::read_stderr_with_error)?;
         self.answered = start + end;
         Ok(info.map(|info| Outcome::Error { bytes: messages.end..self.answered, info }))
     }
 
     fn reply(&mut self, call: &Call) -> Result<Outcome, Stop> {
         let start = self.answered;
-        let read = library::read_daemon_result(call.op, call.version, &self.daemon[start..])
-            .map_err(|refusal| refused(call, Part::Reply, Side::Daemon, start, refusal))?;
+        let read = self.read(call, Part::Reply, start, |stream| library::read_daemon_result(call.op, call.version, stream))?;
         self.answered = start + read.end;
         Ok(Outcome::Reply { bytes: start..self.answered, data: read.value, payload: read.payload })
     }
+
+    /// A part of a call, from a place of its stream on.
+    fn read<T>(&self, call: &Call, part: Part, start: usize, reader: impl Fn(&[u8]) -> Result<T, Refusal>) -> Result<T, Stop> {
+        let (side, stream) = match part {
+            Part::Arguments => (Side::Client, &self.client[start..]),
+            _ => (Side::Daemon, &self.daemon[start..]),
+        };
+        reader(stream).map_err(|refusal| {
+            let good = good_text(&refusal, |end| reader(&stream[..end])).map(|good| start + good.start..start + good.end);
+            Stop::Refused(Refused { part, call: Some(call.index), op: Some(call.op), side, place: start + refusal.place, refusal, good })
+        })
+    }
 }
 
-fn refused(call: &Call, part: Part, side: Side, start: usize, refusal: Refusal) -> Stop {
-    Stop::Refused(Refused { part, call: Some(call.index), op: Some(call.op), side, place: start + refusal.place, refusal })
+/// The good beginning of a string that is refused by 3: a stream that is cut behind it is refused at the string's contents.
+fn good_text<T>(refusal: &Refusal, cut: impl FnOnce(usize) -> Result<T, Refusal>) -> Option<Bytes> {
+    if refusal.number != BAD_TEXT {
+        return None;
+    }
+    cut(refusal.place).err().map(|cut| cut.place..refusal.place)
 }
 
 impl Iterator for Session<'_> {

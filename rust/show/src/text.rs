@@ -30,11 +30,18 @@ pub fn shortened(text: &str) -> String {
         return visible(text);
     }
     if text.starts_with('/') {
-        let end: String = text.chars().skip(length - LONGEST).collect();
-        format!("…{} ({} bytes)", visible(&end), text.len())
+        format!("{} ({} bytes)", ending(text), text.len())
     } else {
         let beginning: String = text.chars().take(LONGEST).collect();
         format!("{}… ({} bytes)", visible(&beginning), text.len())
+    }
+}
+
+/// At most `LONGEST` of the string's last characters.
+pub fn ending(text: &str) -> String {
+    match text.char_indices().rev().nth(LONGEST - 1) {
+        Some((start, _)) if start > 0 => format!("…{}", visible(&text[start..])),
+        _ => visible(text),
     }
 }
 
@@ -75,5 +82,13 @@ mod tests {
         let text = format!("{{{}}}", "é".repeat(200));
         let shown = shortened(&text);
         assert!(shown.starts_with("{éé") && shown.ends_with("é… (402 bytes)"), "{shown}");
+    }
+
+    #[test]
+    fn the_end_of_a_text() {
+        let whole = "é".repeat(LONGEST);
+        assert_eq!(ending(&whole), whole);
+        assert_eq!(ending(&format!("a{whole}")), format!("…{whole}"));
+        assert_eq!(ending("a b"), "\"a b\"");
     }
 }

@@ -116,6 +116,15 @@ impl<'s, W: Write> Words<'s, W> {
             refused.side.name(),
             refused.place
         )?;
+        match &refused.good {
+            None => {}
+            Some(good) if good.is_empty() => writeln!(self.out, "  the string begins there")?,
+            Some(good) => {
+                let text = String::from_utf8_lossy(&stream[good.clone()]);
+                let shown = if self.style.full { text::visible(&text) } else { text::ending(&text) };
+                writeln!(self.out, "  the string begins at byte {}; its first {} bytes are text, up to {shown}", good.start, good.len())?;
+            }
+        }
         self.bytes_around(stream, refused.place)
     }
 

@@ -111,6 +111,38 @@ fn a_call_behind_an_error() {
     assert_eq!(json.lines().last(), Some("{\"event\":\"unended\",\"call\":6,\"op\":13,\"daemon\":2736}"));
 }
 
+/// A string that is no text: its first bad byte is marked, and it is told how far the string is good.
+#[test]
+fn a_bad_byte() {
+    let (client, daemon) = handshake(34);
+    let string = [numbers(&[5]), b"a\xc3\xa9\xffb\0\0\0".to_vec()].concat();
+    let said = |numbers: Vec<u8>, string: &[u8]| [&client[..], &numbers, string].concat();
+    let answered = |numbers: Vec<u8>| [&daemon[..], &numbers, &string].concat();
+    let path = numbers(&[0]);
+    let cases = [
+        ("handshake", "daemon", client.clone(), [numbers(&[0x6478696f, 0x122]), string.clone()].concat()),
+        ("arguments", "client", said(numbers(&[1]), &string), daemon.clone()),
+        ("error", "daemon", said(numbers(&[1]), &path), answered(numbers(&[0x63787470, 0, 0, 0]))),
+        ("reply", "daemon", said(numbers(&[18]), &path), answered(numbers(&[LAST]))),
+    ];
+    for (part, side, client, daemon) in cases {
+        let start = if side == "client" { client.len() } else { daemon.len() } - 8;
+        assert_eq!(any_end(&client, &daemon), Status::Refused);
+        let (_, json) = told(&client, &daemon, &as_json());
+        assert!(json.contains(&format!("\"part\":\"{part}\",\"refusal\":3,")), "{json}");
+        assert!(json.ends_with(&format!("\"stream\":\"{side}\",\"place\":{0},\"good\":[{start},{0}]}}\n", start + 3)), "{json}");
+        let (_, words) = told(&client, &daemon, &Options::default());
+        assert!(
+            words.contains(&format!(", at byte {}\n  the string begins at byte {start}; its first 3 bytes are text, up to aé\n", start + 3)),
+            "{words}"
+        );
+        assert!(words.ends_with(&format!("    {start}  61 c3 a9[ff]62 00 00 00  a...b...\n")), "{words}");
+    }
+    let at_once = said(numbers(&[1, 1]), b"\xff");
+    let (_, words) = told(&at_once, &daemon, &Options::default());
+    assert!(words.contains(&format!(", at byte {}\n  the string begins there\n", at_once.len() - 1)), "{words}");
+}
+
 #[test]
 fn one_byte_changed() {
     for name in names() {

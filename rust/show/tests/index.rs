@@ -61,7 +61,7 @@ const DIFFERENCES: [(&str, usize, Difference); 8] = [
     // Error blocks below 1.26 are a message and a number, and read as a type and a level.
     ("n23-fail-0", 5, Difference::Refused(1, 2496)),
     // A message that is not text.
-    ("fb28cmax-nb-0", 5, Difference::Refused(3, 2416)),
+    ("fb28cmax-nb-0", 5, Difference::Refused(3, 2550)),
     // Arguments that neither the Rust nor 01 reads.
     ("n28-remotebuild-0", 4, Difference::Unfollowed),
     // Another protocol.

@@ -17,8 +17,12 @@ string-at-spec =
     let (at-entry, at-text-at) : tie.Start × tie.After-text-at = search in
     let k = text-known _ _ _ _ (text-told (now (at-entry .args .s)) _ _ (at-text-at .text-at .ensures) _ (c .before .start .given .1)) in
     omega arith)
-    (λ c. search whole-fine)
+    (λ c.
+    let (at-entry, at-text-at, at-start) : tie.Start × tie.After-text-at × tie.After-start = search in
+    let k = text-known _ _ _ _ (text-told (now (at-entry .args .s)) _ _ (at-text-at .text-at .ensures) _ (at-start .start .given .1)) in
+    omega arith)
     (λ c κs. search needs)
+    (λ c. search whole-bad)
     (λ c. search needs)
     (λ c κs.
     let (at-entry, at-text-at) : tie.Start × tie.After-text-at = search in
@@ -29,9 +33,10 @@ string-at-spec =
     let k = text-known _ _ _ _ (text-told (now (at-entry .args .s)) _ _ (at-text-at .text-at .ensures) _ (at-start2 .start2 .given .1)) in
     omega arith)
     (λ c κs. search needs)
-    (λ c. search half-fine)
+    (λ c. search half-bad)
+    (λ c. search needs)
     (λ c κs. search needs)
     (λ c. search needs)
-    (λ c. search whole-bad)
-    (λ c. search half-bad)
+    (λ c. search whole-fine)
+    (λ c. search half-fine)
     (λ c. search not-there))

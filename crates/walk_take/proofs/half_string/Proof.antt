@@ -9,6 +9,7 @@ half-string-spec =
     tie.close
     (tie.spec
     (λ c κs. search needs)
+    (λ c. search needs)
     (λ c κs. search needs)
     (λ c. search half-bad)
     (λ c. search needs)

@@ -5,9 +5,9 @@ pub fn numbers(list: &[u64]) -> Vec<u8> {
     list.iter().flat_map(|n| n.to_le_bytes()).collect()
 }
 
-pub fn string(text: &str) -> Vec<u8> {
-    let mut bytes = numbers(&[text.len() as u64]);
-    bytes.extend(text.bytes());
+pub fn string(contents: impl AsRef<[u8]>) -> Vec<u8> {
+    let mut bytes = numbers(&[contents.as_ref().len() as u64]);
+    bytes.extend(contents.as_ref());
     bytes.resize(bytes.len().next_multiple_of(8), 0);
     bytes
 }
