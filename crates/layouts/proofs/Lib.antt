@@ -1,4 +1,4 @@
--- Theorems about the definitions of `specs/`. `Exact`, `Refusals`, `BadByte`, `RoundTrip`, `Soft`, `Theorems`, `Calls`, `Arguments`, `Stderr`, `Talk` and `Examples` hold
+-- Theorems about the definitions of `specs/`. `Exact`, `Refusals`, `WhereBad`, `RoundTrip`, `Soft`, `Theorems`, `Calls`, `Arguments`, `Stderr`, `Talk` and `Examples` hold
 -- what docs/PROOFS.md cites; the others serve them and the crates above.
 pub mod Little
 pub mod Views
@@ -25,6 +25,6 @@ pub mod Outcomes
 pub mod Turns
 pub mod LowerCase
 pub mod Refusals
-pub mod BadByte
+pub mod WhereBad
 pub mod Examples
 pub mod Unique
