@@ -13,7 +13,6 @@ use Rattle.layouts.specs.Judge.{entriesOf, lentAfter}
 use Rattle.layouts.specs.Calls as L
 use Rattle.layouts.specs.Handshake.{hear, heardEntries, handshake, daemonHandshake, parseHandshake, parseDaemonHandshake}
 use Rattle.layouts.proofs.Placed.{never-both}
-use Rattle.walk_items.specs.Items.{piecesOf}
 use Rattle.walk_judge.specs.declared.Outcome.the-variants.{Fine, Refused}
 use Rattle.walk_judge.specs.declared.Answer.{Answer}
 use Rattle.walk_judge.specs.Judged.{answerAs}
@@ -21,6 +20,7 @@ use Rattle.walk_judge.proofs.Answers.{never, answer-fine}
 use Rattle.writers_output.specs.Numbers.{bytesOf}
 use Rattle.writers_output.proofs.Numbers.{bytes-join}
 use Rattle.walk_rooms.specs.Rooms.{Put, filledAfter}
+use Rattle.walk_fill.specs.There.{piecesThere}
 use Rattle.entries.specs.Entries.{slotsIn}
 use Rattle.walk_rooms.proofs.Laws.{put-join, put-sets, with-words, with-bytes}
 use Rattle.handshake.specs.declared.Greeted.{Greeted}
@@ -74,7 +74,7 @@ module _ (g : Greeted) (o : ℕ → Result L.Answer) (whole words bytes : List �
   read-refused x f = subst (λ (n : ℕ). Read n words bytes) k (unchanged (g .answer) (o slots) (e .0) x f _ words bytes)
 
   abbrev Filled : (s : List ℕ) (l at : ℕ) (ws : List ℕ) (n : ℕ) (bs : List ℕ) (m : ℕ) (ws' : List ℕ) (n' : ℕ) (bs' : List ℕ) (m' : ℕ) → Type 0
-  Filled s l at ws n bs m ws' n' bs' m' = Put ws n (entriesOf (piecesOf l s at)) ws' n' × Put bs m (bytesOf (entriesOf (piecesOf l s at))) bs' m'
+  Filled s l at ws n bs m ws' n' bs' m' = Put ws n (entriesOf (piecesThere l s at)) ws' n' × Put bs m (bytesOf (entriesOf (piecesThere l s at))) bs' m'
 
   pub read-filled : g .answer .outcome ≡ Fine
       → (ws : List ℕ) (n : ℕ) (bs : List ℕ) (m : ℕ) → Filled s (g .offers) (g .«offers_at») words 0 bytes 0 ws n bs m

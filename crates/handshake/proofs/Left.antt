@@ -17,6 +17,8 @@ use Rattle.layouts.proofs.Judge.{judge-read}
 use Rattle.layouts.proofs.Placed.{never-both}
 use Rattle.walk_judge.specs.declared.Outcome.the-variants.{Fine, Refused}
 use Rattle.walk_judge.specs.declared.Answer.{Answer}
+use Rattle.walk_fill.specs.There.{runThere}
+use Rattle.walk_fill.proofs.There.{all-there}
 use Rattle.handshake.specs.Sofar.{saidOn, start, bothOf, said, placeOn, movedOn, afterTurn, turnOf, required}
 use Rattle.handshake.proofs.Ways.{ok-same, said-ok, said-known}
 use Rattle.handshake.proofs.Quiet.{Quiet}
@@ -126,12 +128,13 @@ module _ (s u : List ℕ) (slots : ℕ) where
           by (ok e) j z = (e, ok-same z, judge-read (on d) slots 0 (x .found) these e j)
           by (refused which place stream) j z = absurd (never-both z)
 
-      turn-entries : heardEntries (heardFrom (turn d t k) x) ≡ entriesOf these ++ heardEntries (heardFrom (k (y .found) (placeOn d y)) y)
+      turn-entries : heardEntries (heardFrom (turn d t k) x) ≡ entriesOf (runThere t (on d) (placeOn d x)) ++ heardEntries (heardFrom (k (y .found) (placeOn d y)) y)
       unfolding heardEntries
       turn-entries =
           ap heardEntries heard-turn
           ∙ ap (λ (h : Heard). entriesOf these ++ heardEntries h)
           (next-heard (read .0) (read .2) ∙ ap (λ (z : Both). heardFrom (k (z .found) (placeOn d z)) z) (read .1))
+          ∙ ap (λ (p : Pieces). entriesOf p ++ heardEntries (heardFrom (k (y .found) (placeOn d y)) y)) (sym (all-there (on d) t (placeOn d x) (read .0 .ends) (read .2 .skips)))
 
 -- what was said, as an answer
 abbrev answered : Result Both → Answer
@@ -180,10 +183,10 @@ module _ (s u : List ℕ) (slots : ℕ) (whole : Heard) where
     turned : said h' ≡ onward (said h) (turnOf d (pick d u s) slots t)
     turned = q ∙ ap (λ (z : Tree). onward (said h) (turnOf d (pick d u s) slots z)) (sym e)
 
-    reported : (x : Both) → x ≡ bothOf h → es ++ entriesOf (run t (pick d u s) (placeOn d x)) ≡ es ++ entriesOf (run t' (pick d u s) (placeOn d (bothOf h)))
-    reported x a = ap (λ (y : Both). es ++ entriesOf (run t (pick d u s) (placeOn d y))) a ∙ ap (λ (z : Tree). es ++ entriesOf (run z (pick d u s) (placeOn d (bothOf h)))) e
+    reported : (x : Both) → x ≡ bothOf h → es ++ entriesOf (runThere t (pick d u s) (placeOn d x)) ≡ es ++ entriesOf (runThere t' (pick d u s) (placeOn d (bothOf h)))
+    reported x a = ap (λ (y : Both). es ++ entriesOf (runThere t (pick d u s) (placeOn d y))) a ∙ ap (λ (z : Tree). es ++ entriesOf (runThere z (pick d u s) (placeOn d (bothOf h)))) e
 
-    pub left-turn : Left (said h') (es ++ entriesOf (run t' (pick d u s) (placeOn d (bothOf h)))) (k (h' .found) (placeOn d (bothOf h')))
+    pub left-turn : Left (said h') (es ++ entriesOf (runThere t' (pick d u s) (placeOn d (bothOf h)))) (k (h' .found) (placeOn d (bothOf h')))
     left-turn =
         record {
           same =
@@ -193,15 +196,15 @@ module _ (s u : List ℕ) (slots : ℕ) (whole : Heard) where
           reports = λ y p.
               let x = onward-ok (said h) (turnOf d (pick d u s) slots t) y (sym turned ∙ p) in
               l .reports (x .0) (x .1) ∙ ap (λ (z : List ℕ). es ++ z) (turn-entries s u slots d t k (x .0) y (x .2))
-              ∙ sym (append-assoc es (entriesOf (run t (pick d u s) (placeOn d (x .0)))) (heardEntries (heardFrom s u slots (k (y .found) (placeOn d y)) y)))
+              ∙ sym (append-assoc es (entriesOf (runThere t (pick d u s) (placeOn d (x .0)))) (heardEntries (heardFrom s u slots (k (y .found) (placeOn d y)) y)))
               ∙ ap (λ (z : List ℕ). z ++ heardEntries (heardFrom s u slots (k (y .found) (placeOn d y)) y)) (reported (x .0) (said-ok h (x .0) (x .1)))
-              ∙ ap (λ (z : Both). (es ++ entriesOf (run t' (pick d u s) (placeOn d (bothOf h)))) ++ heardEntries (heardFrom s u slots (k (z .found) (placeOn d z)) y))
+              ∙ ap (λ (z : Both). (es ++ entriesOf (runThere t' (pick d u s) (placeOn d (bothOf h)))) ++ heardEntries (heardFrom s u slots (k (z .found) (placeOn d z)) y))
               (said-ok h' y p);
         }
 
     pub left-quiet : Quiet t → Left (said h') es (k (h' .found) (placeOn d (bothOf h')))
     left-quiet f =
-        let z : es ++ entriesOf (run t' (pick d u s) (placeOn d (bothOf h))) ≡ es =
+        let z : es ++ entriesOf (runThere t' (pick d u s) (placeOn d (bothOf h))) ≡ es =
         sym (reported (bothOf h) refl) ∙ ap (λ (n : List ℕ). es ++ n) (f (pick d u s) (placeOn d (bothOf h))) ∙ append-nil es in
         rw (sym z) left-turn
 
@@ -235,12 +238,12 @@ module _ (s u : List ℕ) (slots : ℕ) (whole : Heard) where
         ∙ ap (λ (x : Both). x .daemonEnds) (said-ok h (b .0) (b .1))
 
     abbrev both : List ℕ
-    both = entriesOf (run t' s (h .ends)) ++ entriesOf (run v' u (h .ends2))
+    both = entriesOf (runThere t' s (h .ends)) ++ entriesOf (runThere v' u (h .ends2))
 
     pub left-round : Left (said h') (es ++ both) (k (h' .found) (h' .ends2))
     left-round =
         left-es (said h') _ (es ++ both) _
-        (λ y p. append-assoc es _ _ ∙ ap (λ (n : ℕ). es ++ (entriesOf (run t' s (h .ends)) ++ entriesOf (run v' u n))) (same-place y p))
+        (λ y p. append-assoc es _ _ ∙ ap (λ (n : ℕ). es ++ (entriesOf (runThere t' s (h .ends)) ++ entriesOf (runThere v' u n))) (same-place y p))
         (left-turn asked h' _ true v v' k f then (left-turn h asked es false t t' (λ r n. turn true v k) e told l))
 
   -- nothing is left

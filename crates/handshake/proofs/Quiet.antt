@@ -1,29 +1,31 @@
 -- Turns of numbers alone keep no string.
-use Prim.Native.Nat.{ℕ, zero, suc}
+use Prim.Native.Nat.{ℕ, zero, suc, _+_}
 use mathlib.Core.Path.{_≡_, refl}
 use mathlib.Core.List.{List, []}
 use mathlib.Core.Bool.{Bool, true, false}
 use lib.ListN.{length}
-use Rattle.layouts.specs.Primitive.{Version, version, atLeast, numberAt}
+use lib.Dec.{leb}
+use Rattle.layouts.specs.Primitive.{pick, Version, version, atLeast, numberAt}
 use Rattle.layouts.specs.Shape.{Target, dropped, maybe, num, What, Tree, ask, stop, ifTrue, field, gated, fields, group, groups, layout}
-use Rattle.layouts.specs.Pieces.{Pieces, Num, value, short, numOf, afterNum, run}
+use Rattle.layouts.specs.Pieces.{Pieces, number}
 use Rattle.layouts.specs.Judge.{entriesOf}
 use Rattle.layouts.specs.Handshake.{hello, fieldsAt, obsoleteFields}
+use Rattle.walk_fill.specs.There.{nothing, runThere}
 
 abbrev pub Quiet : Tree → Type 0
-Quiet t = (s : List ℕ) (at : ℕ) → entriesOf (run t s at) ≡ []
+Quiet t = (s : List ℕ) (at : ℕ) → entriesOf (runThere t s at) ≡ []
 
-number-quiet : (m : Num) (i : Target) (at : ℕ) (k : ℕ → Pieces) → ((n : ℕ) → entriesOf (k n) ≡ []) → entriesOf (afterNum m i at k) ≡ []
-unfolding afterNum entriesOf
-number-quiet (value n) i at k h = h n
-number-quiet short i at k h = refl
+number-quiet : (b : Bool) (i : Target) (at n : ℕ) (p : Pieces) → entriesOf p ≡ [] → entriesOf (pick b (number i at n p) nothing) ≡ []
+unfolding entriesOf
+number-quiet true i at n p h = h
+number-quiet false i at n p h = refl
 
 ask-quiet : (i : Target) (k : ℕ → Tree) → ((n : ℕ) → Quiet (k n)) → Quiet (ask i k)
-unfolding run
-ask-quiet i k h s at = number-quiet (numOf (length s) (numberAt s at) at) i at (λ n. run (k n) s _) (λ n. h n s _)
+unfolding runThere
+ask-quiet i k h s at = number-quiet (leb (at + 8) (length s)) i at (numberAt s at) (runThere (k (numberAt s at)) s (at + 8)) (h (numberAt s at) s (at + 8))
 
 pub stop-quiet : Quiet stop
-unfolding run entriesOf
+unfolding runThere entriesOf
 stop-quiet s at = refl
 
 maybe-quiet : (n : ℕ) (k : Unit {0} → Tree) → Quiet (k tt) → Quiet (ifTrue n k)

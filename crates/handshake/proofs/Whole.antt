@@ -7,7 +7,6 @@ use lib.Dec.{eqb, leb}
 use Rattle.layouts.specs.Primitive.{pick, Version, version, fromWire, smaller, clientMagicWrong, daemonMagicWrong, notLast, Result, ok, refused, onward}
 use Rattle.layouts.specs.Refusal.{refusal}
 use Rattle.layouts.specs.Shape.{Tree, stop, layout, groups}
-use Rattle.layouts.specs.Pieces.{run}
 use Rattle.layouts.specs.Record.{blank}
 use Rattle.layouts.specs.Judge.{entriesOf}
 use Rattle.layouts.specs.Calls as L
@@ -16,9 +15,11 @@ use Rattle.layouts.specs.Handshake.{over, Heard, hear, Both, judgeHeard, heardE
 use Rattle.table.specs.Packed.{helloClient, helloDaemon, featuresClient, featuresDaemon, obsolete, info, nothing}
 use Rattle.table.specs.Table.{groupsAt, versionIn}
 use Rattle.table.specs.Claims.{others}
-use Rattle.walk_items.specs.Items.{versionOf, firstOf, layoutTree, piecesOf}
+use Rattle.walk_items.specs.Items.{versionOf, firstOf, layoutTree}
+use Rattle.walk_items.proofs.Trees as Trees
 use Rattle.walk_judge.specs.declared.Answer.{Answer}
 use Rattle.walk_judge.specs.Judged.{answerAs}
+use Rattle.walk_fill.specs.There.{runThere, piecesThere}
 use Rattle.handshake.specs.Greeted.{reported}
 use Rattle.handshake.specs.Sofar.{start, bothOf, said, turnOf, required}
 use Rattle.handshake.proofs.Ways.{said-known, smaller-in, wire-in}
@@ -30,10 +31,10 @@ abbrev Of : (layout : ℕ) → Version → (first : ℕ) → Type 0
 Of l v i = (versionOf l ≡ v) × (firstOf l ≡ i)
 
 tree-of : (l : ℕ) (v : Version) (i : ℕ) → Of l v i → layout v (groupsAt i) ≡ layoutTree l
-tree-of l v i e = sym (ap (λ (w : Version). layout w (groupsAt (firstOf l))) (e .0) ∙ ap (λ (j : ℕ). layout v (groupsAt j)) (e .1))
+tree-of l v i e = sym (Trees.tree-of l v i e)
 
-quiet-pieces : (l : ℕ) (t : Tree) → t ≡ layoutTree l → Quiet t → (s : List ℕ) (at : ℕ) → entriesOf (piecesOf l s at) ≡ []
-quiet-pieces l t e f s at = ap (λ (x : Tree). entriesOf (run x s at)) (sym e) ∙ f s at
+quiet-pieces : (l : ℕ) (t : Tree) → t ≡ layoutTree l → Quiet t → (s : List ℕ) (at : ℕ) → entriesOf (piecesThere l s at) ≡ []
+quiet-pieces l t e f s at = ap (λ (x : Tree). entriesOf (runThere x s at)) (sym e) ∙ f s at
 
 nothing-stop : (l : ℕ) (v : Version) → Of l v nothing → stop ≡ layoutTree l
 unfolding layout groups
@@ -73,7 +74,7 @@ module _ (s u : List ℕ) (slots : ℕ) (v : Version) (first : Answer) (begun : 
       → Of obsoletes v obsolete → Of infos v info
       → said informed ≡ onward (onward (said agreed) (turnOf false s slots (layoutTree obsoletes))) (turnOf true u slots (layoutTree infos))
       → Left s u slots (hear handshake s u 0 0 blank) (onward (said informed) (lastOf informed))
-      (entriesOf (piecesOf offers s (met .ends)) ++ (entriesOf (piecesOf features u (met .ends2)) ++ entriesOf (piecesOf infos u (agreed .ends2)))) over
+      (entriesOf (piecesThere offers s (met .ends)) ++ (entriesOf (piecesThere features u (met .ends2)) ++ entriesOf (piecesThere infos u (agreed .ends2)))) over
   unfolding handshake greeting daemonInfo
   handshake-left hello known met agreed informed l l' offers features obsoletes infos d1 d2 e1 ev e2 e3 d3 d4 e4 d5 d6 e5 =
       let w = hear handshake s u 0 0 blank in
@@ -81,17 +82,17 @@ module _ (s u : List ℕ) (slots : ℕ) (v : Version) (first : Answer) (begun : 
       let t2 = others .daemon ∙ tree-of l' (version 0 0) helloDaemon d2 in
       let t5 = ap (layout v) (others .obsoletes) ∙ tree-of obsoletes v obsolete d5 in
       let l1 = left-round s u slots w first hello [] _ (layoutTree l) _ (layoutTree l') _ t1 t2 e1 (left-start s u slots (said first) handshake begun) in
-      let z1 : entriesOf (piecesOf l s (first .ends)) ++ entriesOf (piecesOf l' u (first .ends2)) ≡ [] =
-      ap (λ (x : List ℕ). x ++ entriesOf (piecesOf l' u (first .ends2))) (quiet-pieces l _ t1 (hello-quiet 0 1) s (first .ends)) ∙ quiet-pieces l' _ t2 (hello-quiet 2 3) u (first .ends2) in
+      let z1 : entriesOf (piecesThere l s (first .ends)) ++ entriesOf (piecesThere l' u (first .ends2)) ≡ [] =
+      ap (λ (x : List ℕ). x ++ entriesOf (piecesThere l' u (first .ends2))) (quiet-pieces l _ t1 (hello-quiet 0 1) s (first .ends)) ∙ quiet-pieces l' _ t2 (hello-quiet 2 3) u (first .ends2) in
       let l2 = left-es s u slots w (said hello) _ [] _ (λ x q. z1) l1 in
       let l3 = left-require s u slots w _ [] (eqb (numberIn (hello .found) 2) daemonMagic) daemonMagicWrong 0 1 _ (left-require s u slots w (said hello) [] (eqb (numberIn (hello .found) 0) clientMagic) clientMagicWrong 0 0 _ l2) in
       let l4 : Left s u slots w (said met) [] (greeting v) = rw ev (left-by s u slots w _ (said met) [] _ (both-magics hello known met e2 e3) l3) in
       let l5 = left-round s u slots w met agreed [] _ (layoutTree offers) _ (layoutTree features) _ (ap (layout v) (others .clientFeatures) ∙ tree-of offers v featuresClient d3) (ap (layout v) (others .daemonFeatures) ∙ tree-of features v featuresDaemon d4) e4 l4 in
       let l6 = left-round s u slots w agreed informed _ _ (layoutTree obsoletes) _ (layoutTree infos) _ t5 (ap (layout v) (others .infos) ∙ tree-of infos v info d6) e5 l5 in
-      let es = entriesOf (piecesOf offers s (met .ends)) in
-      let fs = entriesOf (piecesOf features u (met .ends2)) in
-      let gs = entriesOf (piecesOf infos u (agreed .ends2)) in
-      let z2 : (es ++ fs) ++ (entriesOf (piecesOf obsoletes s (agreed .ends)) ++ gs) ≡ es ++ (fs ++ gs) =
+      let es = entriesOf (piecesThere offers s (met .ends)) in
+      let fs = entriesOf (piecesThere features u (met .ends2)) in
+      let gs = entriesOf (piecesThere infos u (agreed .ends2)) in
+      let z2 : (es ++ fs) ++ (entriesOf (piecesThere obsoletes s (agreed .ends)) ++ gs) ≡ es ++ (fs ++ gs) =
       ap (λ (x : List ℕ). (es ++ fs) ++ (x ++ gs)) (quiet-pieces obsoletes _ t5 (obsolete-quiet v) s (agreed .ends)) ∙ append-assoc es fs gs in
       left-require s u slots w (said informed) _ (eqb (numberIn (informed .found) 5) Last) notLast (informed .ends2 - 8) 1 over (left-es s u slots w (said informed) _ (es ++ (fs ++ gs)) _ (λ x q. z2) l6)
 
@@ -105,7 +106,7 @@ module _ (s u : List ℕ) (slots : ℕ) (v : Version) (first : Answer) (begun : 
       → Of infos v info
       → said informed ≡ onward (onward (said agreed) (turnOf false q slots (layoutTree nothings))) (turnOf true u slots (layoutTree infos))
       → Left s u slots (hear (daemonHandshake c) s u 0 0 blank) (onward (said informed) (lastOf informed))
-      (entriesOf (piecesOf features u (met .ends2)) ++ entriesOf (piecesOf infos u (agreed .ends2))) over
+      (entriesOf (piecesThere features u (met .ends2)) ++ entriesOf (piecesThere infos u (agreed .ends2))) over
   unfolding daemonHandshake daemonGreeting daemonInfo
   daemon-left c hello met agreed informed q nothings l features infos d0 d1 e1 ev e2 d3 e3 d4 e4 =
       let w = hear (daemonHandshake c) s u 0 0 blank in
@@ -156,7 +157,7 @@ pub daemon-told : (u : List ℕ) (slots : ℕ) (c : Version) (informed : Answer)
     → (n : ℕ) → Of n (version 0 0) nothing → (d : ℕ) → versionIn d ≡ c
     → (r : Answer) → r ≡ answerAs (onward (onward (said informed) (lastOf informed)) (handshakeAnswer (versionIn d)))
     → (r ≡ answerAs (parseDaemonHandshake c u slots))
-    × ((s : List ℕ) → reported (parseDaemonHandshake c u slots) (entriesOf (piecesOf n s 0) ++ es)
+    × ((s : List ℕ) → reported (parseDaemonHandshake c u slots) (entriesOf (piecesThere n s 0) ++ es)
     ≡ reported (parseDaemonHandshake c u slots) (heardEntries (hear (daemonHandshake c) [] u 0 0 blank)))
 unfolding parseDaemonHandshake
 daemon-told u slots c informed es l n p d e r q =

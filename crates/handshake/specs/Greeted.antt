@@ -8,9 +8,9 @@ use Rattle.layouts.specs.Record.{blank}
 use Rattle.layouts.specs.Judge.{entriesOf}
 use Rattle.layouts.specs.Calls as L
 use Rattle.layouts.specs.Handshake.{hear, heardEntries, handshake, daemonHandshake, parseHandshake, parseDaemonHandshake}
-use Rattle.walk_items.specs.Items.{piecesOf}
 use Rattle.walk_judge.specs.declared.Answer.{Answer}
 use Rattle.walk_judge.specs.Judged.{answerAs}
+use Rattle.walk_fill.specs.There.{piecesThere}
 use Rattle.walk_rooms.specs.Rooms.{RoomsFilled, roomsFilled, LentRead, lentRead}
 use Rattle.entries.specs.Entries.{slotsIn}
 use Rattle.handshake.specs.declared.Greeted.{Greeted}
@@ -18,8 +18,8 @@ use Rattle.handshake.specs.declared.Greeted.{Greeted}
 -- the client's features, the daemon's, its version string
 abbrev pub keptBy : Greeted → (s u : List ℕ) → List ℕ
 keptBy g s u =
-    entriesOf (piecesOf (g .offers) s (g .«offers_at»))
-    ++ (entriesOf (piecesOf (g .features) u (g .«features_at»)) ++ entriesOf (piecesOf (g .info) u (g .«info_at»)))
+    entriesOf (piecesThere (g .offers) s (g .«offers_at»))
+    ++ (entriesOf (piecesThere (g .features) u (g .«features_at»)) ++ entriesOf (piecesThere (g .info) u (g .«info_at»)))
 
 abbrev pub reported : {A : Type 0} → Result A → List ℕ → List ℕ
 reported (ok a) es = es

@@ -74,9 +74,6 @@ module _ (s : List ℕ) (at : ℕ) (r : C.Chunk) (e : r ≡ chunkFound (chunkOf 
   pub wrong-plain : (x : Refusal) → r ≡ Wrong x → x .stream ≡ 0
   wrong-plain x q = subst ChunkPlain (sym e ∙ q) (chunk-plain (chunkOf (length s) (numberAt s at) at))
 
-pub plain-is : (x : Refusal) (which place : ℕ) → x ≡ plain which place → x .stream ≡ 0
-plain-is x which place e = ap (λ (r : Refusal). r .stream) e
-
 abbrev TextSays : (size n at : ℕ) → Text → Type 0
 TextSays size n at (whole start len next) = (start ≡ at + 8) × (len ≡ n) × (start + len ≤ next) × (next ≤ size)
 TextSays size n at (cut start len) = (start ≡ at + 8) × (len ≡ n) × (start + len ≤ size)

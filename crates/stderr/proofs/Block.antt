@@ -22,8 +22,8 @@ use Rattle.layouts.proofs.Judge.{judge-read, entries-length}
 use Rattle.layouts.proofs.Placed.{never-both}
 use Rattle.table.specs.Packed as P
 use Rattle.table.specs.Claims.{others}
-use Rattle.walk_items.specs.Items.{versionOf, firstOf, piecesOf}
-use Rattle.walk_items.proofs.Trees.{pieces-of}
+use Rattle.walk_items.specs.Items.{versionOf, firstOf, layoutTree, piecesOf}
+use Rattle.walk_items.proofs.Trees.{tree-of}
 use Rattle.walk_judge.specs.declared.Outcome.the-variants.{Fine, Refused}
 use Rattle.walk_judge.specs.declared.Answer as C
 use Rattle.walk_judge.specs.Judged.{answerAs, endedAs}
@@ -33,6 +33,8 @@ use Rattle.writers_output.proofs.Numbers.{bytes-none}
 use Rattle.walk_rooms.specs.Rooms.{Put, filledAfter}
 use Rattle.entries.specs.Entries.{slotsIn}
 use Rattle.walk_rooms.proofs.Laws.{put-sets, with-words, with-bytes}
+use Rattle.walk_fill.specs.There.{piecesThere}
+use Rattle.walk_fill.proofs.There.{layout-there}
 use Rattle.stderr.specs.declared.Stopped.{Stopped}
 use Rattle.stderr.specs.declared.Stopped.the-variants as T
 use Rattle.stderr.specs.Loop.{stoppedAs, recordFor}
@@ -42,15 +44,15 @@ abbrev answerOf : Result Ended → Result Answer
 answerOf o = onward o (λ e. stderrAnswer (e .ends) (e .found))
 
 module _ (s : List ℕ) (at : ℕ) (r : Record) (l : ℕ) (w : (versionOf l ≡ version 0 0) × (firstOf l ≡ P.errorBlock)) where
-  block-at : piecesOf l s at ≡ run errorBlock s at
-  block-at = pieces-of l (version 0 0) P.errorBlock w s at ∙ ap (λ (t : Tree). run t s at) (sym (others .error))
+  block-tree : layoutTree l ≡ errorBlock
+  block-tree = tree-of l (version 0 0) P.errorBlock w ∙ sym (others .error)
 
   module _ (slots : ℕ) (a : C.Answer) (j : a ≡ answerAs (endedAs (judgeOf s slots 0 r (piecesOf l s at)))) where
     abbrev said : Result Ended
     said = judgeOf s slots 0 r (run errorBlock s at)
 
     judged-is : a ≡ answerAs (endedAs said)
-    judged-is = j ∙ ap (λ (p : Pieces). answerAs (endedAs (judgeOf s slots 0 r p))) block-at
+    judged-is = j ∙ ap (λ (t : Tree). answerAs (endedAs (judgeOf s slots 0 r (run t s at)))) block-tree
 
     answered-as : (o : Result Ended) → endedAs o ≡ answerOf o
     answered-as (ok x) = refl
@@ -65,12 +67,13 @@ module _ (s : List ℕ) (at : ℕ) (r : Record) (l : ℕ) (w : (versionOf l ≡ 
         (sym (ended-refused said (y .which) (y .place) (y .stream) (answer-refused a (endedAs said) y judged-is f)))
 
     -- as numbers, or as their bytes
-    block-put : a .outcome ≡ Fine → (form : List ℕ → List ℕ) (lent out : List ℕ) (k : ℕ) → Put lent 0 (form (entriesOf (piecesOf l s at))) out k
+    block-put : a .outcome ≡ Fine → (form : List ℕ → List ℕ) (lent out : List ℕ) (k : ℕ) → Put lent 0 (form (entriesOf (piecesThere l s at))) out k
         → out ≡ filledAfter said (form (entriesOf (run errorBlock s at))) lent
     block-put f form lent out k p =
-        put-sets lent (form (entriesOf (piecesOf l s at))) out k p
-        ∙ ap (λ (y : Pieces). sets lent 0 (form (entriesOf y))) block-at
-        ∙ ap (λ (o : Result Ended). filledAfter o (form (entriesOf (run errorBlock s at))) lent) (sym (ended-fine said _ (answer-fine a (endedAs said) judged-is f)))
+        let e = ended-fine said _ (answer-fine a (endedAs said) judged-is f) in
+        put-sets lent (form (entriesOf (piecesThere l s at))) out k p
+        ∙ ap (λ (y : Pieces). sets lent 0 (form (entriesOf y))) (layout-there l block-tree s at slots 0 r _ e)
+        ∙ ap (λ (o : Result Ended). filledAfter o (form (entriesOf (run errorBlock s at))) lent) (sym e)
 
   -- judged with as many slots as the rooms have
   module _ (words bytes : List ℕ) (slots : ℕ) (k : slots ≡ slotsIn words bytes) (a : C.Answer) (j : a ≡ answerAs (endedAs (judgeOf s slots 0 r (piecesOf l s at)))) where
@@ -83,7 +86,7 @@ module _ (s : List ℕ) (at : ℕ) (r : Record) (l : ℕ) (w : (versionOf l ≡ 
     pub block-refused : (y : Refusal) → a .outcome ≡ Refused y → BlockRead (slotsIn words bytes) words bytes
     block-refused y f = subst (λ (n : ℕ). BlockRead n words bytes) k (block-answer slots a j, (block-kept slots a j y f _ words, block-kept slots a j y f _ bytes))
 
-    pub block-filled : a .outcome ≡ Fine → (ws : List ℕ) (n : ℕ) (bs : List ℕ) (m : ℕ) → Put words 0 (entriesOf (piecesOf l s at)) ws n → Put bytes 0 (bytesOf (entriesOf (piecesOf l s at))) bs m
+    pub block-filled : a .outcome ≡ Fine → (ws : List ℕ) (n : ℕ) (bs : List ℕ) (m : ℕ) → Put words 0 (entriesOf (piecesThere l s at)) ws n → Put bytes 0 (bytesOf (entriesOf (piecesThere l s at))) bs m
         → BlockRead (slotsIn words bytes) ws bs
     block-filled f ws n bs m p q =
         subst (λ (n : ℕ). BlockRead n ws bs) k

@@ -1,248 +1,186 @@
--- A field that is filled in, and the fold: item by item, what is written and what is to come is what the layout reports.
-use Prim.Native.Nat.{ℕ, zero, suc, _+_, _-_, _*_, _≤_, _<_}
+-- A field, an item, and the fold: item by item, what is written and what is to come is what the layout reports.
+use Prim.Native.Nat.{ℕ, _+_, _≤_, _<_}
 use mathlib.Core.Path.{_≡_, refl, sym, _∙_, ap, subst}
-use mathlib.Core.List.{List, [], _++_, append-nil}
-use mathlib.Core.Bool.{Bool, true, false}
+use mathlib.Core.List.{List, [], _∷_, append-nil}
 use lib.ListN.{length}
 use lib.Seq.{sets}
 use native.Mathlib.Omega.{arith}
 use native.Mathlib.Decide.{decLt}
 use borrow.Author.Tests.{ne-eqb}
-use Rattle.layouts.specs.Primitive.{Version}
-use Rattle.layouts.specs.declared.Refusal.{Refusal}
-use Rattle.layouts.specs.Shape.{Target, Role, passed, checked, kept, Tree, ask, say, frames, strings, units, stop, field, What}
-use Rattle.layouts.specs.Pieces.{Pieces, number, text, half, chunk, end, fault, run}
-use Rattle.layouts.specs.Judge.{entriesOf, payloadOf}
+use Rattle.layouts.specs.Primitive.{numberAt, Version}
+use Rattle.layouts.specs.Shape.{Target, dropped, Tree, ask, say, strings, units, field}
+use Rattle.layouts.specs.Pieces.{Pieces}
+use Rattle.layouts.specs.Record.{isKept}
+use Rattle.layouts.specs.Judge.{entry, entriesOf, payloadOf}
 use Rattle.layouts.specs.Calls.{peekNumber}
 use Rattle.numbers.specs.declared.Number.{Number}
 use Rattle.numbers.specs.declared.Number.the-variants.{Value, Short}
 use Rattle.writers_output.specs.Numbers.{bytesOf}
 use Rattle.pieces.specs.Pieces.{numRead}
-use Rattle.pieces.proofs.Nodes.{ask-cut, ask-found}
+use Rattle.pieces.proofs.Numbers.{number-known, number-short}
 use Rattle.table.specs.Table.{roleOf, targetOf, whatOf}
-use Rattle.walk_strings.specs.Strings.{series, stays, textIf, chunkIf, bare}
 use Rattle.walk_items.specs.declared.Item.{Item}
-use Rattle.walk_items.specs.Items.{versionOf, layoutTree, piecesOf, restTree, onto, itemTree, targetFor, afterNumber, rank, Falls}
-use Rattle.walk_items.proofs.Trees.{field-item}
-use Rattle.walk_items.proofs.Fields.{is-text, is-framed, is-number, after-set, after-pairs}
-use Rattle.walk_pass.specs.declared.Stop.{Stop}
-use Rattle.walk_pass.specs.declared.Stop.the-variants as S
-use Rattle.walk_pass.specs.Passing.{stopTo, fuelOf, StopOn}
-use Rattle.walk_fill.specs.declared.Listed.{Listed}
-use Rattle.walk_fill.specs.declared.Listed.the-variants as R
-use Rattle.walk_fill.specs.declared.Copied.{Copied}
-use Rattle.walk_fill.specs.declared.Copied.the-variants as C
-use Rattle.walk_fill.specs.declared.Filled.{Filled}
-use Rattle.walk_fill.specs.declared.Filled.the-variants as F
-use Rattle.walk_rooms.specs.Rooms.{Put, Filling}
-use Rattle.walk_fill.specs.Fill.{Rooms, Fills, rooms, nothing, listedRooms, afterListed, ListedFrom, copiedRooms, afterCopied, CopiedFrom, filledRooms, afterFilled, FilledFrom}
+use Rattle.walk_items.specs.Items.{versionOf, layoutTree, restTree, timesOf, onto, itemTree, targetFor, afterNumber}
+use Rattle.walk_items.proofs.Trees.{end-item, quiet-item, times-item, field-item}
+use Rattle.walk_items.proofs.Fields.{is-text, is-framed, is-number, after-set, after-pairs, after-false, after-true, after-type-0, after-typed, after-nothing}
+use Rattle.walk_rooms.specs.Rooms.{Put}
 use Rattle.walk_rooms.proofs.Laws.{filling-end}
-use Rattle.walk_fill.proofs.Pieces.{fills-start, fills-on, fills-as, fills-same, fills-front, fault-fills}
+use Rattle.walk_fill.specs.declared.Listed.{Listed}
+use Rattle.walk_fill.specs.declared.Copied.{Copied}
+use Rattle.walk_fill.specs.declared.Filled.{Filled}
+use Rattle.walk_fill.specs.There.{nothing, runThere, piecesThere}
+use Rattle.walk_fill.specs.Fill.{Rooms, Fills, rooms, Alike, Lists, Copies, FillsField}
+use Rattle.walk_fill.proofs.There.{ask-there, past-none}
+use Rattle.walk_fill.proofs.Pieces.{fills-start, fills-on, fills-as, fills-same, fills-front}
 
--- ---- a kept string by its role
-role-kept : (role : ℕ) → 2 ≤ role → roleOf role ≡ kept
-unfolding roleOf
-role-kept role h = rw (ne-eqb role 0 (λ e. omega arith), ne-eqb role 1 (λ e. omega arith))
+-- ---- an entry, by the role of its string
+put-nothing : (l : List ℕ) (i : ℕ) → Put l i [] l i
+put-nothing l i = record { size = refl; then = λ ws. refl; place = omega arith }
 
--- ---- a field that is filled in
-module _ (s : List ℕ) (x₀ : Rooms) (at kind i : ℕ) (k : Unit {0} → Tree) (x : Rooms) (p : Pieces) where
-  abbrev Here : Type 0
-  Here = Fills s x₀ (run (field (whatOf kind kept (targetOf i)) k) s at) x p
+module _ (role start len : ℕ) (ws : List ℕ) (w : ℕ) (bs : List ℕ) (b : ℕ) where
+  abbrev PutKept : (ws' : List ℕ) (w' : ℕ) (bs' : List ℕ) (b' : ℕ) → Type 0
+  PutKept ws' w' bs' b' = Put ws w (entry (isKept (roleOf role)) start len []) ws' w' × Put bs b (bytesOf (entry (isKept (roleOf role)) start len [])) bs' b'
 
-  same-here : (t : Tree) → field (whatOf kind kept (targetOf i)) k ≡ t → Fills s x₀ (run t s at) x p → Here
-  same-here t e f = subst (λ (u : Tree). Fills s x₀ (run u s at) x p) (sym e) f
+  pub not-kept : role < 2 → PutKept ws w bs b
+  unfolding roleOf bytesOf
+  not-kept h = by (decLt role 1)
+    where
+      by : Dec (role < 1) → PutKept ws w bs b
+      by (yes l) = let e : role ≡ 0 = omega arith in rw e (put-nothing ws w, put-nothing bs b)
+      by (no l) = let e : role ≡ 1 = omega arith in rw e (put-nothing ws w, put-nothing bs b)
 
-  pub text-here : kind ≡ 2 → Fills s x₀ (run (series kept 1 0 0 k) s at) x p → Here
-  unfolding series strings units roleOf
-  text-here e f = same-here _ (is-text kind 2 i k e) f
-
-  pub frames-here : kind ≡ 5 → Fills s x₀ (run (frames k) s at) x p → Here
+  pub is-kept : 2 ≤ role → (ws' : List ℕ) (w' : ℕ) (bs' : List ℕ) (b' : ℕ) → Put ws w (start ∷ len ∷ []) ws' w' → Put bs b (bytesOf (start ∷ len ∷ [])) bs' b' → PutKept ws' w' bs' b'
   unfolding roleOf
-  frames-here e f = same-here _ (is-framed kind 2 i k e) f
+  is-kept h ws' w' bs' b' p q = rw (ne-eqb role 0 (λ e. omega arith), ne-eqb role 1 (λ e. omega arith)) (p, q)
 
-  module _ (a : kind ≡ 2 → ⊥) (c : kind ≡ 5 → ⊥) (m : Number) (e : numRead m ≡ peekNumber s at) (n : ℕ) (q : m ≡ Value n) where
-    number-here : (t : Tree) → afterNumber kind 2 n k ≡ t → Fills s x₀ (run t s (at + 8)) x p → Here
-    unfolding roleOf entriesOf payloadOf
-    number-here t g f =
-        same-here _ (is-number kind 2 i k a c)
-        (subst (λ (u : Pieces). Fills s x₀ u x p) (sym (ask-found s at m e n q (targetOf (targetFor kind i)) (λ n. afterNumber kind 2 n k)))
-        (fills-front s x₀ _ (run (afterNumber kind 2 n k) s (at + 8)) x p refl refl (subst (λ (u : Tree). Fills s x₀ (run u s (at + 8)) x p) (sym g) f)))
+-- ---- the place after a number
+module _ (s : List ℕ) (at : ℕ) (m : Number) (e : numRead m ≡ peekNumber s at) where
+  pub number-past : m ≡ Short → (i : Target) (k : Unit {0} → Tree) → Alike s (runThere (ask i (λ v. k tt)) s at) (runThere (k tt) s (length s))
+  number-past q i k =
+      let y = past-none s at (number-short s at m e q) (ask i (λ v. k tt)) in
+      let z = past-none s (length s) (omega arith) (k tt) in
+      (sym (y .0) ∙ z .0, sym (y .1) ∙ z .1)
 
-    pub set-here : kind ≡ 3 → Fills s x₀ (run (series kept 0 0 n k) s (at + 8)) x p → Here
-    unfolding series strings roleOf
-    set-here h f = number-here _ (after-set kind 2 n k h) f
+  pub number-on : (n : ℕ) → m ≡ Value n → (i : Target) (k : Unit {0} → Tree) → Alike s (runThere (ask i (λ v. k tt)) s at) (runThere (k tt) s (at + 8))
+  unfolding entriesOf payloadOf
+  number-on n q i k =
+      let z = number-known s at m e n q in
+      let y = ask-there s at n (z .1) (z .0) i (λ v. k tt) in
+      (ap entriesOf y, ap (payloadOf s) y)
 
-    pub pairs-here : kind ≡ 4 → Fills s x₀ (run (series kept 0 1 n k) s (at + 8)) x p → Here
-    unfolding series strings roleOf
-    pairs-here h f = number-here _ (after-pairs kind 2 n k h) f
+-- ---- what follows the number of a field
+module _ (s : List ℕ) (at : ℕ) (ws : List ℕ) (w : ℕ) (bs : List ℕ) (b : ℕ) where
+  lists-as : (ws' bs' : List ℕ) (r : Listed) (t u : (Unit {0} → Tree) → Tree) → ((k : Unit {0} → Tree) → t k ≡ u k) → Lists s at u ws w bs b ws' bs' r → Lists s at t ws w bs b ws' bs' r
+  lists-as ws' bs' r t u e h ps p k = subst (λ (y : Tree). Fills s (rooms ws w bs b ps p) (runThere y s at) (rooms ws' (r .words) bs' (r .bytes) ps p) (runThere (k tt) s (r .at))) (sym (e k)) (h ps p k)
 
-pub cut-here : (s : List ℕ) (x₀ : Rooms) (at kind i : ℕ) (k : Unit {0} → Tree) → (kind ≡ 2 → ⊥) → (kind ≡ 5 → ⊥) → (m : Number) → numRead m ≡ peekNumber s at → m ≡ Short
-    → Fills s x₀ (run (field (whatOf kind kept (targetOf i)) k) s at) x₀ nothing
-unfolding roleOf
-cut-here s x₀ at kind i k a c m e q =
-    fault-fills s x₀ _ x₀ _ (fills-start s x₀ _ _ refl) 1 at (ap (λ (t : Tree). run t s at) (is-number kind 2 i k a c) ∙ ask-cut s at m e q (targetOf (targetFor kind i)) (λ n. afterNumber kind 2 n k))
+  -- nothing is kept
+  lists-none : (a : ℕ) (t : (Unit {0} → Tree) → Tree) → ((k : Unit {0} → Tree) → Alike s (runThere (t k) s at) (runThere (k tt) s a)) → Lists s at t ws w bs b ws bs (record { at = a; words = w; bytes = b })
+  lists-none a t e ps p k = fills-as s _ _ _ _ (fills-start s _ _ _ refl) (runThere (k tt) s a) (e k .0) (e k .1)
 
--- the same of what a series says, or framed data
-module _ (s ws : List ℕ) (w : ℕ) (bs : List ℕ) (b at kind : ℕ) (r : Listed) (ws' bs' : List ℕ) where
-  abbrev SeriesFills : ((Unit {0} → Tree) → Tree) → (from : ℕ) → Type 0
-  SeriesFills t from = (ps : List ℕ) (n : ℕ) (k : Unit {0} → Tree) → Fills s (rooms ws w bs b ps n) (run (t k) s from) (listedRooms ws' bs' ps n r) (afterListed s k r)
+  module _ (kind role v : ℕ) where
+    abbrev After : (ws' bs' : List ℕ) → Listed → Type 0
+    After ws' bs' r = Lists s at (afterNumber kind role v) ws w bs b ws' bs' r
 
-  abbrev StringsFill : Type 0
-  StringsFill = (ps : List ℕ) (n i : ℕ) (k : Unit {0} → Tree) → Fills s (rooms ws w bs b ps n) (run (field (whatOf kind kept (targetOf i)) k) s at) (listedRooms ws' bs' ps n r) (afterListed s k r)
+    module _ (ws' bs' : List ℕ) (r : Listed) where
+      pub set-after : kind ≡ 3 → Lists s at (units (roleOf role) 0 v) ws w bs b ws' bs' r → After ws' bs' r
+      set-after e h = lists-as ws' bs' r _ _ (λ k. after-set kind role v k e) h
 
-  pub text-series : kind ≡ 2 → SeriesFills (series kept 1 0 0) at → StringsFill
-  text-series e f ps n i k = text-here s _ at kind i k _ _ e (f ps n k)
+      pub pairs-after : kind ≡ 4 → Lists s at (units (roleOf role) 1 v) ws w bs b ws' bs' r → After ws' bs' r
+      pairs-after e h = lists-as ws' bs' r _ _ (λ k. after-pairs kind role v k e) h
 
-  module _ (a : kind ≡ 2 → ⊥) (c : kind ≤ 4) (m : Number) (e : numRead m ≡ peekNumber s at) (v : ℕ) (q : m ≡ Value v) where
-    pub set-series : kind ≡ 3 → SeriesFills (series kept 0 0 v) (at + 8) → StringsFill
-    set-series h f ps n i k = set-here s _ at kind i k _ _ a (λ z. omega arith) m e v q h (f ps n k)
+      pub typed-after : kind ≡ 7 → (v ≡ 0 → ⊥) → Lists s at (units (roleOf 0) 0 1) ws w bs b ws' bs' r → After ws' bs' r
+      unfolding roleOf units strings
+      typed-after e f h = lists-as ws' bs' r _ _ (λ k. after-typed kind role v k e f) h
 
-    pub pairs-series : 2 ≤ kind → (kind ≡ 3 → ⊥) → SeriesFills (series kept 0 1 v) (at + 8) → StringsFill
-    pairs-series g h f ps n i k = pairs-here s _ at kind i k _ _ a (λ z. omega arith) m e v q (omega arith) (f ps n k)
+    module _ (a : ℕ) (h : (i : Target) (k : Unit {0} → Tree) → Alike s (runThere (ask i (λ v. k tt)) s at) (runThere (k tt) s a)) where
+      number-after : ((k : Unit {0} → Tree) → afterNumber kind role v k ≡ ask dropped (λ v. k tt)) → After ws bs (record { at = a; words = w; bytes = b })
+      number-after e = lists-as ws bs _ _ _ e (lists-none a _ (λ k. h dropped k))
 
-pub series-past : (at : ℕ) (r : Listed) → ListedFrom (at + 8) r → ListedFrom at r
-series-past at (R.Past a w b) h = omega (arith, h)
-series-past at (R.Over w b) h = tt
+      pub type-after : kind ≡ 7 → v ≡ 0 → After ws bs (record { at = a; words = w; bytes = b })
+      type-after e f = number-after (λ k. after-type-0 kind role v k e f)
 
-module _ (s ws : List ℕ) (w : ℕ) (bs : List ℕ) (b : ℕ) (ps : List ℕ) (n at kind : ℕ) where
-  abbrev FieldFills : (after : Rooms) → ((Unit {0} → Tree) → Pieces) → Type 0
-  FieldFills x p = (i : ℕ) (k : Unit {0} → Tree) → Fills s (rooms ws w bs b ps n) (run (field (whatOf kind kept (targetOf i)) k) s at) x (p k)
+      pub true-after : kind ≡ 6 → (v ≡ 0 → ⊥) → After ws bs (record { at = a; words = w; bytes = b })
+      true-after e f = number-after (λ k. after-true kind role v k e f)
 
-  module _ (r : Copied) (ps' : List ℕ) (e : kind ≡ 5)
-      (h : (ws : List ℕ) (w : ℕ) (bs : List ℕ) (b : ℕ) (k : Unit {0} → Tree) → Fills s (rooms ws w bs b ps n) (run (frames k) s at) (copiedRooms ws w bs b ps' r) (afterCopied s k r)) where
-    copied-as : (y : Copied) → r ≡ y → FieldFills (copiedRooms ws w bs b ps' y) (λ k. afterCopied s k y)
-    copied-as y q i k = subst (λ (u : Copied). Fills s (rooms ws w bs b ps n) (run (field (whatOf kind kept (targetOf i)) k) s at) (copiedRooms ws w bs b ps' u) (afterCopied s k u)) q (frames-here s _ at kind i k _ _ e (h ws w bs b k))
+    stays : ((k : Unit {0} → Tree) → afterNumber kind role v k ≡ k tt) → After ws bs (record { at = at; words = w; bytes = b })
+    stays e = lists-as ws bs _ _ (λ k. k tt) e (lists-none at _ (λ k. (refl, refl)))
 
-    pub copied-over : (n' : ℕ) → r ≡ C.Over n' → FieldFills (rooms ws w bs b ps' n') (λ k. nothing)
-    copied-over n' q = copied-as (C.Over n') q
+    pub false-after : kind ≡ 6 → v ≡ 0 → After ws bs (record { at = at; words = w; bytes = b })
+    false-after e f = stays (λ k. after-false kind role v k e f)
 
-    pub copied-past : (next n' : ℕ) → r ≡ C.Past next n' → FieldFills (rooms ws w bs b ps' n') (λ k. run (k tt) s next)
-    copied-past next n' q = copied-as (C.Past next n') q
+    pub nothing-after : (kind ≡ 3 → ⊥) → (kind ≡ 4 → ⊥) → (kind ≡ 6 → ⊥) → (kind ≡ 7 → ⊥) → After ws bs (record { at = at; words = w; bytes = b })
+    nothing-after a b' c d = stays (λ k. after-nothing kind role v k a b' c d)
 
-  module _ (r : Listed) (ws' bs' : List ℕ) (h : StringsFill s ws w bs b at kind r ws' bs') where
-    series-as : (y : Listed) → r ≡ y → FieldFills (listedRooms ws' bs' ps n y) (λ k. afterListed s k y)
-    series-as y q i k = subst (λ (u : Listed). Fills s (rooms ws w bs b ps n) (run (field (whatOf kind kept (targetOf i)) k) s at) (listedRooms ws' bs' ps n u) (afterListed s k u)) q (h ps n i k)
+-- ---- a field
+module _ (s : List ℕ) (at kind role : ℕ) (ws : List ℕ) (w : ℕ) (bs : List ℕ) (b : ℕ) (ps : List ℕ) (p : ℕ) where
+  abbrev Field : (ws bs ps : List ℕ) → Filled → Type 0
+  Field ws' bs' ps' r = FillsField s at kind role (rooms ws w bs b ps p) ws' bs' ps' r
 
-    pub series-over : (w' b' : ℕ) → r ≡ R.Over w' b' → FieldFills (rooms ws' w' bs' b' ps n) (λ k. nothing)
-    series-over w' b' q = series-as (R.Over w' b') q
+  field-as : (x : Rooms) (q : Pieces) (i : ℕ) (k : Unit {0} → Tree) (t : Tree) → field (whatOf kind (roleOf role) (targetOf i)) k ≡ t → Fills s (rooms ws w bs b ps p) (runThere t s at) x q
+      → Fills s (rooms ws w bs b ps p) (runThere (field (whatOf kind (roleOf role) (targetOf i)) k) s at) x q
+  field-as x q i k t e h = subst (λ (y : Tree). Fills s (rooms ws w bs b ps p) (runThere y s at) x q) (sym e) h
 
-    pub series-on : (next w' b' : ℕ) → r ≡ R.Past next w' b' → FieldFills (rooms ws' w' bs' b' ps n) (λ k. run (k tt) s next)
-    series-on next w' b' q = series-as (R.Past next w' b') q
+  pub frames-field : kind ≡ 5 → (ps' : List ℕ) (c : Copied) → Copies s at ps p ps' c → Field ws bs ps' (record { at = c .at; words = w; bytes = b; payload = c .place })
+  frames-field e ps' c h i k = field-as _ _ i k _ (is-framed kind role i k e) (h ws w bs b k)
 
-pub copied-from : (at : ℕ) (r : Copied) → CopiedFrom at r → (next n : ℕ) → r ≡ C.Past next n → at ≤ next
-copied-from at r h next n q = subst (CopiedFrom at) q h
+  module _ (ws' bs' : List ℕ) (r : Listed) where
+    pub text-field : kind ≡ 2 → Lists s at (say (roleOf role)) ws w bs b ws' bs' r → Field ws' bs' ps (record { at = r .at; words = r .words; bytes = r .bytes; payload = p })
+    text-field e h i k = field-as _ _ i k _ (is-text kind role i k e) (h ps p k)
 
-pub series-from : (at : ℕ) (r : Listed) → ListedFrom at r → (next w b : ℕ) → r ≡ R.Past next w b → at ≤ next
-series-from at r h next w b q = subst (ListedFrom at) q h
-
--- ---- what is passed over leaves nothing
-entries-text : (u : Bool) (r : Role) (start len : ℕ) (p q : Pieces) → stays true r ≡ u → entriesOf p ≡ entriesOf q → entriesOf (textIf u r start len p) ≡ entriesOf (text r start len q)
-unfolding entriesOf
-entries-text u passed start len p q z e = rw (← z) e
-entries-text u checked start len p q z e = rw (← z) e
-entries-text u kept start len p q z e = rw (← z, e)
-
-payload-text : (s : List ℕ) (u : Bool) (r : Role) (start len : ℕ) (p : Pieces) → payloadOf s (textIf u r start len p) ≡ payloadOf s p
-unfolding payloadOf
-payload-text s true r start len p = refl
-payload-text s false r start len p = refl
-
-entries-bare : (p : Pieces) → entriesOf (bare true p) ≡ entriesOf p
-unfolding bare entriesOf
-entries-bare (number i place n p) = entries-bare p
-entries-bare (text r start len p) = entries-text (stays true r) r start len (bare true p) p refl (entries-bare p)
-entries-bare (half r start len) = refl
-entries-bare (chunk start len p) = entries-bare p
-entries-bare (end place) = refl
-entries-bare (fault which place) = refl
-
-payload-bare : (s : List ℕ) (p : Pieces) → payloadOf s (bare true p) ≡ payloadOf s p
-unfolding bare payloadOf
-payload-bare s (number i place n p) = payload-bare s p
-payload-bare s (text r start len p) = payload-text s (stays true r) r start len (bare true p) ∙ payload-bare s p
-payload-bare s (half r start len) = refl
-payload-bare s (chunk start len p) = rw (payload-bare s p)
-payload-bare s (end place) = refl
-payload-bare s (fault which place) = refl
+    pub number-field : (kind ≡ 2 → ⊥) → (kind ≡ 5 → ⊥) → (n : ℕ) → n ≡ numberAt s at → at + 8 ≤ length s → Lists s (at + 8) (afterNumber kind role n) ws w bs b ws' bs' r
+        → Field ws' bs' ps (record { at = r .at; words = r .words; bytes = r .bytes; payload = p })
+    unfolding entriesOf payloadOf
+    number-field a c n e l h i k =
+        let y = ask-there s at n e l (targetOf (targetFor kind i)) (λ v. afterNumber kind role v k) in
+        field-as _ _ i k _ (is-number kind role i k a c) (fills-front s _ _ (runThere (afterNumber kind role n k) s (at + 8)) _ _ (ap entriesOf y) (ap (payloadOf s) y) (h ps p k))
 
 -- ---- the fold
 abbrev pub toCome : List ℕ → Version → (at pc reps body i : ℕ) → Pieces
-toCome s v at pc reps body i = run (restTree v pc reps body i tt) s at
-
-pub fold-start : (s : List ℕ) (l at : ℕ) (x : Rooms) (f : Item) → restTree (versionOf l) (f .pc) (f .reps) (f .body) (f .group) tt ≡ layoutTree l
-    → Fills s x (piecesOf l s at) x (toCome s (versionOf l) at (f .pc) (f .reps) (f .body) (f .group))
-fold-start s l at x f e = fills-start s x _ _ (ap (λ (t : Tree). run t s at) e)
+toCome s v at pc reps body i = runThere (restTree v pc reps body i tt) s at
 
 abbrev pub Full : List ℕ → (x₀ : Rooms) → Pieces → Rooms → Type 0
 Full s x₀ p x =
     Put (x₀ .words) (x₀ .word) (entriesOf p) (x .words) (x .word) ×
     (Put (x₀ .bytes) (x₀ .byte) (bytesOf (entriesOf p)) (x .bytes) (x .byte) × (x .payload ≡ sets (x₀ .payload) (x₀ .place) (payloadOf s p)))
 
-module _ (s : List ℕ) (x₀ : Rooms) (p₀ : Pieces) (x : Rooms) where
-  full : (p : Pieces) → Fills s x₀ p₀ x p → entriesOf p ≡ [] → payloadOf s p ≡ [] → Full s x₀ p₀ x
-  unfolding bytesOf
-  full p f e g = (
-    filling-end _ _ _ _ _ _ (f .words) e,
-    (
-      filling-end _ _ _ _ _ _ (f .bytes) (ap bytesOf e),
-      filling-end _ _ _ _ _ _ (f .payload) g .then [] ∙ ap (sets (x₀ .payload) (x₀ .place)) (append-nil (payloadOf s p₀)),
-    ),
-  )
+pub fold-start : (s : List ℕ) (l at : ℕ) (x : Rooms) (f : Item) → restTree (versionOf l) (f .pc) (f .reps) (f .body) (f .group) tt ≡ layoutTree l
+    → Fills s x (piecesThere l s at) x (toCome s (versionOf l) at (f .pc) (f .reps) (f .body) (f .group))
+fold-start s l at x f e = fills-start s x _ _ (ap (λ (t : Tree). runThere t s at) e)
 
-  fold-over : Fills s x₀ p₀ x nothing → Full s x₀ p₀ x
+module _ (s : List ℕ) (x₀ : Rooms) (p₀ : Pieces) (x : Rooms) (v : Version) (at pc reps body i : ℕ) (inv : Fills s x₀ p₀ x (toCome s v at pc reps body i)) (f : Item)
+    (law : restTree v pc reps body i tt ≡ itemTree v f) where
+  by-item : Fills s x₀ p₀ x (runThere (itemTree v f) s at)
+  by-item = fills-same s x₀ p₀ x _ inv _ (ap (λ (t : Tree). runThere t s at) law)
+
+  full : Alike s nothing (runThere (itemTree v f) s at) → Full s x₀ p₀ x
+  unfolding entriesOf payloadOf bytesOf
+  full z =
+      let g = by-item in (
+        filling-end _ _ _ _ _ _ (g .words) (sym (z .0)),
+        (
+          filling-end _ _ _ _ _ _ (g .bytes) (ap bytesOf (sym (z .0))),
+          filling-end _ _ _ _ _ _ (g .payload) (sym (z .1)) .then [] ∙ ap (sets (x₀ .payload) (x₀ .place)) (append-nil (payloadOf s p₀)),
+        ),
+      )
+
+  pub fold-end : f .kind ≡ 0 → Full s x₀ p₀ x
+  unfolding runThere entriesOf payloadOf
+  fold-end k = full (rw (end-item v f k) (refl, refl))
+
+  pub fold-cut : (m : Number) → numRead m ≡ peekNumber s at → m ≡ Short → Full s x₀ p₀ x
+  fold-cut m e q = full (past-none s at (number-short s at m e q) (itemTree v f))
+
+  pub fold-quiet : f .kind ≡ 16 → Fills s x₀ p₀ x (toCome s v at (f .pc) (f .reps) (f .body) (f .group))
+  fold-quiet k = fills-same s x₀ p₀ x _ by-item _ (ap (λ (t : Tree). runThere t s at) (quiet-item v f k))
+
+  pub fold-times : 16 < f .kind → (n t : ℕ) → n ≡ numberAt s at → at + 8 ≤ length s → t ≡ timesOf (f .kind) n → Fills s x₀ p₀ x (toCome s v (at + 8) (f .pc) t (f .body) (f .group))
   unfolding entriesOf payloadOf
-  fold-over f = full nothing f refl refl
+  fold-times l n t e h g =
+      let y = ap (λ (u : Tree). runThere u s at) (times-item v f (omega arith) (λ z. omega arith)) ∙ ask-there s at n e h (targetOf (f .target)) (λ m. onto v f (timesOf (f .kind) m) tt) in
+      let z = ap (λ (u : ℕ). runThere (onto v f u tt) s (at + 8)) (sym g) in
+      fills-as s x₀ p₀ x _ by-item _ (ap entriesOf y ∙ ap entriesOf z) (ap (payloadOf s) y ∙ ap (payloadOf s) z)
 
--- where passing stops: as much is to come
-module _ (s : List ℕ) (x₀ : Rooms) (p₀ : Pieces) (x : Rooms) (v : Version) (p : Pieces) (inv : Fills s x₀ p₀ x p) (k : Stop) (law : bare true p ≡ stopTo true s v k) where
-  stopped : (y : Stop) → k ≡ y → Fills s x₀ p₀ x (stopTo true s v y)
-  stopped y q =
-      let g = law ∙ ap (stopTo true s v) q in
-      fills-as s x₀ p₀ x p inv (stopTo true s v y) (sym (entries-bare p) ∙ ap entriesOf g) (sym (payload-bare s p) ∙ ap (payloadOf s) g)
-
-  pub fold-end : (e : ℕ) → k ≡ S.End e → Full s x₀ p₀ x
-  unfolding entriesOf payloadOf
-  fold-end e q = full s x₀ p₀ x (end e) (stopped (S.End e) q) refl refl
-
-  pub fold-refused : (y : Refusal) → k ≡ S.Refused y → Full s x₀ p₀ x
-  fold-refused y q = fold-over s x₀ p₀ x (fault-fills s x₀ p₀ x _ (stopped (S.Refused y) q) (y .which) (y .place) refl)
-
-  module _ (fuel : ℕ) (o : StopOn true s fuel k) (a : ℕ) (f : Item) (q : k ≡ S.Stays a f) where
-    on : StopOn true s fuel (S.Stays a f)
-    on = subst (StopOn true s fuel) q o
-
-    pub stays-within : (2 ≤ f .kind) × (f .kind ≤ 5)
-    stays-within = (on .0 .1, on .0 .2)
-
-    kept-by : Dec (f .kind < 5) → whatOf (f .kind) (roleOf (f .role)) (targetOf (f .target)) ≡ whatOf (f .kind) kept (targetOf (f .target))
-    unfolding whatOf
-    kept-by (yes h) = ap (λ (r : Role). whatOf (f .kind) r (targetOf (f .target))) (role-kept (f .role) (on .0 .3 (λ e. omega arith)))
-    kept-by (no h) =
-        let g = on .0 .2 in
-        let e : f .kind ≡ 5 = omega arith in
-        rw e
-
-    at-field : Fills s x₀ p₀ x (run (field (whatOf (f .kind) kept (targetOf (f .target))) (onto v f (f .reps))) s a)
-    at-field =
-        let w = run (itemTree v f) s a in
-        let g = stays-within in
-        let e = field-item v f (λ z. omega (arith, g)) (omega (arith, g)) ∙ ap (λ (t : What). field t (onto v f (f .reps))) (kept-by (decLt (f .kind) 5)) in
-        fills-same s x₀ p₀ x w (fills-as s x₀ p₀ x (bare true w) (stopped (S.Stays a f) q) w (entries-bare w) (payload-bare s w)) _ (ap (λ (t : Tree). run t s a) e)
-
-    module _ (r : Filled) (ws bs ps : List ℕ) (h : (i : ℕ) (k : Unit {0} → Tree) → Fills s x (run (field (whatOf (f .kind) kept (targetOf i)) k) s a) (filledRooms ws bs ps r) (afterFilled s k r)) where
-      filled : (y : Filled) → r ≡ y → Fills s x₀ p₀ (filledRooms ws bs ps y) (afterFilled s (onto v f (f .reps)) y)
-      filled y e =
-          subst (λ (u : Filled). Fills s x₀ p₀ (filledRooms ws bs ps u) (afterFilled s (onto v f (f .reps)) u)) e
-          (fills-on s x₀ p₀ x _ at-field _ _ (h (f .target) (onto v f (f .reps))))
-
-      pub fold-cut : (w b n : ℕ) → r ≡ F.Over w b n → Full s x₀ p₀ (rooms ws w bs b ps n)
-      fold-cut w b n e = fold-over s x₀ p₀ (rooms ws w bs b ps n) (filled (F.Over w b n) e)
-
-      pub fold-filled : (next w b n : ℕ) → r ≡ F.Past next w b n → Fills s x₀ p₀ (rooms ws w bs b ps n) (toCome s v next (f .pc) (f .reps) (f .body) (f .group))
-      fold-filled next w b n e = filled (F.Past next w b n) e
-
-      pub filled-less : FilledFrom a r → (next w b n : ℕ) → r ≡ F.Past next w b n → fuelOf s next (f .pc) (f .reps) (f .group) < fuel
-      filled-less y next w b n e =
-          let g = on .1 in
-          let u : a ≤ next = subst (FilledFrom a) e y in
-          omega (arith, g)
+  pub fold-filled : (f .kind ≡ 0 → ⊥) → (f .kind ≡ 16 → ⊥) → f .kind ≤ 16 → (ws bs ps : List ℕ) (r : Filled) → FillsField s at (f .kind) (f .role) x ws bs ps r
+      → Fills s x₀ p₀ (rooms ws (r .words) bs (r .bytes) ps (r .payload)) (toCome s v (r .at) (f .pc) (f .reps) (f .body) (f .group))
+  fold-filled a b l ws bs ps r h =
+      fills-on s x₀ p₀ x _ (fills-same s x₀ p₀ x _ by-item _ (ap (λ (t : Tree). runThere t s at) (field-item v f a (omega arith)))) _ _ (h (f .target) (onto v f (f .reps)))

@@ -1,4 +1,5 @@
--- `Unique` is what docs/PROOFS.md cites; the others serve the functions' proofs, here and in the crates above.
+-- `There` and `Unique` are what docs/PROOFS.md cites; the others serve the functions' proofs.
+pub mod There
 pub mod Pieces
 pub mod Folding
 pub mod Unique

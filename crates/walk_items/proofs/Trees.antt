@@ -8,6 +8,7 @@ use native.Mathlib.Omega.{arith}
 use borrow.Author.Tests.{eq-eqb, ne-eqb, eqb-true, lt-ltb, le-ltb}
 use Rattle.layouts.specs.Primitive.{pick, Version, version, atLeast}
 use Rattle.layouts.specs.Shape.{What, Gated, always, from, below, Group, Tree, ask, stop, field, there, what, gated, fields, repeated, truth, group, groups, layout}
+use Rattle.layouts.specs.Pieces.{run}
 use Rattle.table.specs.declared.Field.{Field}
 use Rattle.table.specs.declared.PackedGroup.{PackedGroup}
 use Rattle.table.specs.Packed.{size, packedTable, nothing, emptyFields, oneNumber}
@@ -28,9 +29,12 @@ pub layout-start : (l : ℕ) → restTree (versionOf l) size 0 size (firstOf l) 
 unfolding restTree groupTree fields repeated layout itemsAt items packedTable
 layout-start l = refl
 
--- the pieces of a layout that was made of a version and a place, as `walk_items::layout` makes it
+-- a layout that was made of a version and a place, as `walk_items::layout` makes it: its tree, and its pieces
+pub tree-of : (l : ℕ) (v : Version) (i : ℕ) → (versionOf l ≡ v) × (firstOf l ≡ i) → layoutTree l ≡ layout v (groupsAt i)
+tree-of l v i e = ap (λ (w : Version). layout w (groupsAt (firstOf l))) (e .0) ∙ ap (λ (j : ℕ). layout v (groupsAt j)) (e .1)
+
 pub pieces-of : (l : ℕ) (v : Version) (i : ℕ) → (versionOf l ≡ v) × (firstOf l ≡ i) → (s : List ℕ) (at : ℕ) → piecesOf l s at ≡ layoutPieces v i s at
-pieces-of l v i e s at = ap (λ (w : Version). layoutPieces w (firstOf l) s at) (e .0) ∙ ap (λ (j : ℕ). layoutPieces v j s at) (e .1)
+pieces-of l v i e s at = ap (λ (t : Tree). run t s at) (tree-of l v i e)
 
 -- ---- an item by its kind
 module _ (v : Version) (r : I.Item) where

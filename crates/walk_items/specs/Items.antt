@@ -2,7 +2,8 @@
 use Prim.Native.Nat.{ℕ, _+_, _-_, _*_, _/_, _%_, _<_, _≤_}
 use mathlib.Core.Path.{_≡_}
 use mathlib.Core.List.{List}
-use mathlib.Core.Bool.{Bool, true, false, not}
+use mathlib.Core.Bool.{Bool, true, not}
+use lib.ListN.{length}
 use lib.Dec.{eqb, ltb}
 use Rattle.layouts.specs.Primitive.{pick, Version, version, atLeast}
 use Rattle.layouts.specs.Shape.{asNumber, Tree, ask, stop, field, fields, repeated, groups, layout, truth, units, ifTrue, byType}
@@ -105,6 +106,10 @@ afterNumber kind role n k =
 -- ---- the measure: groups, then times, then fields. A u64 of times takes less than 2^75, and all of it less than 2^90
 abbrev pub rank : (pc reps run : ℕ) → ℕ
 rank pc reps i = (size - i) * 37778931862957161709568 + reps * 512 + (size - pc)
+
+-- of a fold over a stream: bytes first, then the state
+abbrev pub fuelOf : List ℕ → (at pc reps run : ℕ) → ℕ
+fuelOf s at pc reps i = (length s - at) * 1237940039285380274899124224 + rank pc reps i
 
 -- it falls with each field, and where nothing is read
 abbrev pub Falls : (pc reps run : ℕ) → Item → Type 0

@@ -17,9 +17,9 @@ use Rattle.layouts.specs.Record.{noted, withEntries, withPayload, withNumber}
 use Rattle.layouts.specs.Judge.{Ended, judgeOf, entriesOf}
 use Rattle.table.specs.Table.{targetOf}
 use Rattle.walk_items.specs.declared.Item.{Item}
-use Rattle.walk_items.specs.Items.{versionOf, layoutTree, piecesOf, restTree, itemTree, Falls}
+use Rattle.walk_items.specs.Items.{versionOf, layoutTree, piecesOf, restTree, itemTree, fuelOf}
 use Rattle.walk_items.proofs.Trees.{end-item, quiet-item}
-use Rattle.walk_pass.specs.Passing.{fuelOf}
+use Rattle.walk_items.proofs.Measure.{read-less}
 use Rattle.walk_take.specs.Taking.{ahead}
 use Rattle.walk_take.proofs.Pieces.{nothing-in}
 use Rattle.walk_judge.specs.declared.Answer.{Answer}
@@ -99,9 +99,5 @@ module _ (ns cs : List ℕ) (b : Bool) (target v : ℕ) where
     in-presence l n p = noted-presence (gathered ns cs b n p) target v (not (eqb v 0)) z l (is-true v)
 
 -- ---- the measure
-module _ (s : List ℕ) (at pc reps i : ℕ) where
-  pub quiet-less : (f : Item) → Falls pc reps i f → f .kind ≡ 16 → fuelOf s at (f .pc) (f .reps) (f .group) < fuelOf s at pc reps i
-  quiet-less f h k = let g = h (λ z. omega arith) (omega arith) in omega (arith, g)
-
-  pub fed-less : (k : Fed) (a n p r target v pc' i' : ℕ) → FedTook s at k → k ≡ F.Past a n p r target v → r < 18446744073709551616 → fuelOf s a pc' r i' < fuelOf s at pc reps i
-  fed-less k a n p r target v pc' i' h q b = let g : FedTook s at (F.Past a n p r target v) = subst (FedTook s at) q h in omega (arith, g)
+pub fed-less : (s : List ℕ) (at pc reps i : ℕ) (k : Fed) (a n p r target v pc' i' : ℕ) → FedTook s at k → k ≡ F.Past a n p r target v → r < 18446744073709551616 → fuelOf s a pc' r i' < fuelOf s at pc reps i
+fed-less s at pc reps i k a n p r target v pc' i' h q b = read-less s at pc reps i a r pc' i' (subst (FedTook s at) q h) b

@@ -1,4 +1,3 @@
--- They serve the folds.
 pub mod Passing
 pub mod Moving
 pub mod Skipping

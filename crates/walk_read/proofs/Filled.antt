@@ -31,6 +31,8 @@ use Rattle.walk_judge.specs.Judged.{gathered, answerOf, answerAs, endedAs, wind
 use Rattle.walk_judge.proofs.Answers.{said-fine, said-refused, ended-fine, ended-refused}
 use Rattle.writers_output.specs.Numbers.{bytesOf}
 use Rattle.walk_rooms.specs.Rooms.{filledAfter}
+use Rattle.walk_fill.specs.There.{piecesThere}
+use Rattle.walk_fill.proofs.There.{all-there}
 use Rattle.walk_read.specs.Reading.{readBy, answeredAs, Planned}
 
 none-there : (xs : List ℕ) → length xs ≡ 0 → xs ≡ []
@@ -88,7 +90,7 @@ module _ (l : ℕ) (s : List ℕ) (slots room : ℕ) (c : ℕ) where
         let t : x .found .payload ≡ 0 + totalOf (piecesOf l s 0) = ap (λ (r : Record). r .payload) (reads .holds) ∙ record-room blank (piecesOf l s 0) .1 in
         omega arith
 
-    planned : (w : List ℕ) → w ≡ inWindow (replicate 16 0) 0 (entriesOf (piecesOf l s 0)) → Planned w (x .found .entries) (x .found .payload) s (piecesOf l s 0)
+    planned : (w : List ℕ) → w ≡ inWindow (replicate 16 0) 0 (entriesOf (piecesOf l s 0)) → Planned w (x .found .entries) (x .found .payload) s l
     planned w e =
         let c = counted in
         let t = totalled in
@@ -96,6 +98,7 @@ module _ (l : ℕ) (s : List ℕ) (slots room : ℕ) (c : ℕ) where
           wide = ap length e ∙ length-sets (replicate 16 0) 0 (take 16 (entriesOf (piecesOf l s 0)));
           kept = λ h. in-window (entriesOf (piecesOf l s 0)) (x .found .entries) w c h e;
           chunks = λ z. none-there (payloadOf s (piecesOf l s 0)) (omega arith);
+          there = all-there s (layoutTree l) 0 (x .ends) (reads .skips);
         }
 
   module _ (n# : ℕ) (same : n# ≡ slots) (a : Said) (ns cs : List ℕ) (judged : answerOf a ns cs ≡ answerAs (endedAs (readBy l s n# room))) where
@@ -119,7 +122,7 @@ module _ (l : ℕ) (s : List ℕ) (slots room : ℕ) (c : ℕ) where
       pub fine-is : said ≡ ok (record { found = gathered ns cs b n p; ends = ends })
       fine-is = ended-fine said _ (said-fine a ns cs (endedAs said) j kind ends ends2 n p b q)
 
-      pub fine-planned : (w : List ℕ) → w ≡ windowAfter a (replicate 16 0) 0 (entriesOf (piecesOf l s 0)) → Planned w n p s (piecesOf l s 0)
+      pub fine-planned : (w : List ℕ) → w ≡ windowAfter a (replicate 16 0) 0 (entriesOf (piecesOf l s 0)) → Planned w n p s l
       fine-planned w h = planned (record { found = gathered ns cs b n p; ends = ends }) fine-is w (h ∙ ap (λ (y : Said). windowAfter y (replicate 16 0) 0 (entriesOf (piecesOf l s 0))) q)
 
       pub read-fine : (k : ℕ) → k ≡ kindNumbered (versionOf l) b c → answerOf (S.Fine k ends 0 n p b) ns cs ≡ answerAs (answeredAs (versionOf l) c said)
@@ -138,16 +141,23 @@ neither : (x y : Bool) → x || y ≡ false → (x ≡ false) × (y ≡ false)
 neither true y e = absurd (true≢false e)
 neither false y e = (refl, e)
 
-module _ (w : List ℕ) (entries total : ℕ) (s : List ℕ) (p : Pieces) (h : Planned w entries total s p) (few : ltb 0 total || ltb 8 entries ≡ false) where
-  pub from-window : (f : List ℕ → List ℕ) (lent out : List ℕ) → out ≡ sets lent 0 (f (take (2 * min entries (length w / 2)) w)) → out ≡ sets lent 0 (f (entriesOf p))
-  from-window f lent out e =
-      let d = h .wide in
-      let b = ltb-false 8 entries (neither (ltb 0 total) (ltb 8 entries) few .1) in
-      let k : min entries (length w / 2) ≡ entries = omega arith in
-      e ∙ ap (λ (n : ℕ). sets lent 0 (f (take (2 * n) w))) k ∙ ap (λ (x : List ℕ). sets lent 0 (f x)) (h .kept b)
+module _ (w : List ℕ) (entries total : ℕ) (s : List ℕ) (l : ℕ) (h : Planned w entries total s l) where
+  abbrev p : Pieces
+  p = piecesOf l s 0
 
-  pub no-payload : (lent : List ℕ) → lent ≡ sets lent 0 (payloadOf s p)
-  no-payload lent = ap (sets lent 0) (sym (let a = ltb-false 0 total (neither (ltb 0 total) (ltb 8 entries) few .0) in h .chunks (omega arith)))
+  pub from-fold : (f : Pieces → List ℕ) (lent out : List ℕ) → out ≡ sets lent 0 (f (piecesThere l s 0)) → out ≡ sets lent 0 (f p)
+  from-fold f lent out e = e ∙ ap (λ (x : Pieces). sets lent 0 (f x)) (h .there)
+
+  module _ (few : ltb 0 total || ltb 8 entries ≡ false) where
+    pub from-window : (f : List ℕ → List ℕ) (lent out : List ℕ) → out ≡ sets lent 0 (f (take (2 * min entries (length w / 2)) w)) → out ≡ sets lent 0 (f (entriesOf p))
+    from-window f lent out e =
+        let d = h .wide in
+        let b = ltb-false 8 entries (neither (ltb 0 total) (ltb 8 entries) few .1) in
+        let k : min entries (length w / 2) ≡ entries = omega arith in
+        e ∙ ap (λ (n : ℕ). sets lent 0 (f (take (2 * n) w))) k ∙ ap (λ (x : List ℕ). sets lent 0 (f x)) (h .kept b)
+
+    pub no-payload : (lent : List ℕ) → lent ≡ sets lent 0 (payloadOf s p)
+    no-payload lent = ap (sets lent 0) (sym (let a = ltb-false 0 total (neither (ltb 0 total) (ltb 8 entries) few .0) in h .chunks (omega arith)))
 
 -- ---- a layout that needs no fold, for one who has matched on it
 pub brief-is : (l : ℕ) (x y : Brief) → Briefly (layoutTree l) x → x ≡ y → Briefly (layoutTree l) y

@@ -21,7 +21,7 @@ fn fill_in(
     bytes: &mut [u8],
     payload: &mut [u8],
 )
-    requires { ⌜ Planned (now window) entries total (now s) (piecesOf layout (now s) 0) ⌝ }
+    requires { ⌜ Planned (now window) entries total (now s) layout ⌝ }
     ensures words { λ r. ⌜ now (words .exit) ≡ sets (now (words .entry)) 0 (entriesOf (piecesOf layout (now (s .entry)) 0)) ⌝ }
     ensures bytes { λ r. ⌜ now (bytes .exit) ≡ sets (now (bytes .entry)) 0 (bytesOf (entriesOf (piecesOf layout (now (s .entry)) 0))) ⌝ }
     ensures payload { λ r. ⌜ now (payload .exit) ≡ sets (now (payload .entry)) 0 (payloadOf (now (s .entry)) (piecesOf layout (now (s .entry)) 0)) ⌝ }

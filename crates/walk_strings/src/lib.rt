@@ -2,9 +2,8 @@
 ghost use mathlib.Core.Path.{_≡_};
 ghost use Prim.Native.Nat.{_≤_};
 ghost use lib.ListN.{length};
-ghost use mathlib.Core.Bool.{Bool, false};
 ghost use Rattle.layouts.specs.Shape.{Role};
-ghost use Rattle.walk_strings.specs.Strings.{series, afterNext, stays, Passes, PastFrom, Expected};
+ghost use Rattle.walk_strings.specs.Strings.{series, afterNext, Passes, PastFrom, Expected};
 use layouts::Refusal;
 use numbers::Number;
 use pieces::Text;
@@ -65,7 +64,7 @@ fn is_expected(s: &[u8], at: usize, expected: usize) -> bool
 
 // No contents are looked at.
 pub fn pass(s: &[u8], from: usize, pend: u64, extra: u64, left: u64) -> Passed
-    ensures law { λ r. ⌜ ((b : Bool) (m : Role) → stays b m ≡ false → Passes b (now (s .entry)) from (series m pend extra left) r) ⌝ }
+    ensures law { λ r. ⌜ ((m : Role) → Passes (now (s .entry)) from (series m pend extra left) r) ⌝ }
     ensures on { λ r. ⌜ PastFrom from r ⌝ }
 {
     let mut at = from;

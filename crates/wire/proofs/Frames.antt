@@ -11,7 +11,7 @@ use Rattle.layouts.specs.declared.Record.{Record}
 use Rattle.layouts.specs.declared.Refusal.{Refusal}
 use Rattle.layouts.specs.Primitive.{numberAt, version, Result, ok, refused, onward}
 use Rattle.layouts.specs.Refusal.{refusedBy}
-use Rattle.layouts.specs.Shape.{Tree, framed, frames, stop}
+use Rattle.layouts.specs.Shape.{framed, frames, stop}
 use Rattle.layouts.specs.Pieces.{Pieces, Chunk, afterChunk, chunks, end, run, skipOf, totalOf}
 use Rattle.layouts.specs.Record.{blank, withNumber, withPayload}
 use Rattle.layouts.specs.Judge.{chunkTaken, Ended, judgeOf, payloadOf, lentAfter}
@@ -23,13 +23,15 @@ use Rattle.layouts.proofs.Judge.{payload-length, judge-read}
 use Rattle.pieces.proofs.Fields.{field-framed}
 use Rattle.table.specs.Packed.{framedData}
 use Rattle.table.specs.Claims.{others}
-use Rattle.walk_items.specs.Items.{versionOf, firstOf, piecesOf}
-use Rattle.walk_items.proofs.Trees.{pieces-of}
+use Rattle.walk_items.specs.Items.{versionOf, firstOf}
+use Rattle.walk_items.proofs.Trees.{tree-of}
 use Rattle.walk_take.specs.declared.Series.{Series}
 use Rattle.walk_take.specs.declared.Series.the-variants as O
 use Rattle.walk_take.specs.Taking.{TakesFrames, framesTo}
 use Rattle.walk_rooms.specs.Rooms.{filledAfter}
 use Rattle.walk_rooms.proofs.Laws.{fitting}
+use Rattle.walk_fill.specs.There.{piecesThere}
+use Rattle.walk_fill.proofs.There.{layout-there}
 use Rattle.wire.specs.declared.Cursor.{Cursor}
 use Rattle.wire.specs.declared.Read.{Read}
 use Rattle.wire.specs.declared.Read.the-variants as R
@@ -140,9 +142,9 @@ module _ (s : List ℕ) (at : ℕ) (lent : List ℕ) where
     read-refused x q = let e = told (R.Refused x) q in (e, ap (λ (o : Result Ended). lentAfter o (framedPayload s at) lent) e)
 
     pub read-joined : (v : ℕ) (next : Cursor) → o ≡ R.Value v next → (l : ℕ) → (versionOf l ≡ version 0 0) × (firstOf l ≡ framedData)
-        → (out : List ℕ) → out ≡ sets lent 0 (payloadOf s (piecesOf l s at))
+        → (out : List ℕ) → out ≡ sets lent 0 (payloadOf s (piecesThere l s at))
         → (totalRead (R.Value v next) ≡ answer) × (out ≡ lentAfter answer (framedPayload s at) lent)
     read-joined v next q l w out h =
         let e = told (R.Value v next) q in
-        let g = pieces-of l (version 0 0) framedData w s at ∙ ap (λ (t : Tree). run t s at) (sym (others .chunks)) in
+        let g = layout-there l (tree-of l (version 0 0) framedData w ∙ sym (others .chunks)) s at 0 (length lent) blank _ (sym e) in
         (e, h ∙ ap (λ (p : Pieces). sets lent 0 (payloadOf s p)) g ∙ ap (λ (o : Result Ended). filledAfter o (framedPayload s at) lent) e ∙ fitting answer (framedPayload s at) lent framed-fits)

@@ -1,17 +1,16 @@
 -- What is read of the field of a set: the count was found, and so many strings were judged or passed.
 use Prim.Native.Nat.{ℕ, zero, suc, _+_, _*_, _/_, _≤_}
-use mathlib.Core.Path.{_≡_, refl, sym, _∙_, ap, subst}
+use mathlib.Core.Path.{_≡_, refl, sym, _∙_, ap}
 use mathlib.Core.List.{List, []}
-use mathlib.Core.Bool.{Bool, false}
 use lib.ListN.{length}
 use lib.Seq.{sets}
 use native.Mathlib.Omega.{arith}
-use Rattle.layouts.specs.Primitive.{numberAt, version, Result, ok, refused, onward}
+use Rattle.layouts.specs.Primitive.{numberAt, version, Result, ok, onward}
 use Rattle.layouts.specs.declared.Refusal.{Refusal}
 use Rattle.layouts.specs.Refusal.{plain, refusedBy}
 use Rattle.layouts.specs.declared.Record.{Record}
-use Rattle.layouts.specs.Shape.{asNumber, asCount, Role, passed, kept, set, Tree, stop, strings, units}
-use Rattle.layouts.specs.Pieces.{Pieces, end, Text, afterText, run, skipOf}
+use Rattle.layouts.specs.Shape.{asNumber, asCount, Role, passed, kept, set, stop, strings, units}
+use Rattle.layouts.specs.Pieces.{Pieces, Text, afterText, run, skipOf}
 use Rattle.layouts.specs.Record.{blank, withNumber, withCount, withEntries, noted, entered}
 use Rattle.layouts.specs.Judge.{Ended, judgeOf, notText, textTaken, halfTaken, entriesOf, lentAfter}
 use Rattle.layouts.specs.Soft.{keptOf}
@@ -29,13 +28,11 @@ use Rattle.pieces.proofs.Numbers.{number-known, number-short}
 use Rattle.table.specs.Packed.{stringSet}
 use Rattle.table.specs.Table.{roleOf}
 use Rattle.table.specs.Claims.{others}
-use Rattle.walk_items.specs.Items.{versionOf, firstOf, piecesOf}
-use Rattle.walk_items.proofs.Trees.{pieces-of}
+use Rattle.walk_items.specs.Items.{versionOf, firstOf}
+use Rattle.walk_items.proofs.Trees.{tree-of}
 use Rattle.walk_strings.specs.declared.Passed as R
 use Rattle.walk_strings.specs.declared.Passed.the-variants as R'
-use Rattle.walk_strings.specs.Strings as S
-use Rattle.walk_strings.specs.Strings.{series, stays, bare, Passes, PastFrom}
-use Rattle.walk_strings.proofs.Series.{series-skips}
+use Rattle.walk_strings.specs.Strings.{series, passedTo, Passes}
 use Rattle.walk_take.specs.declared.Series.{Series}
 use Rattle.walk_take.specs.declared.Series.the-variants as O
 use Rattle.walk_take.specs.Taking.{Takes, seriesTo}
@@ -43,6 +40,8 @@ use Rattle.writers_output.specs.Numbers.{bytesOf}
 use Rattle.walk_rooms.specs.Rooms.{Put, filledAfter}
 use Rattle.entries.specs.Entries.{slotsIn}
 use Rattle.walk_rooms.proofs.Laws.{put-sets, with-words, with-bytes}
+use Rattle.walk_fill.specs.There.{piecesThere}
+use Rattle.walk_fill.proofs.There.{layout-there}
 use Rattle.wire.specs.declared.Cursor.{Cursor}
 use Rattle.wire.specs.declared.Read as Q
 use Rattle.wire.specs.declared.Read.the-variants as W
@@ -123,14 +122,14 @@ module _ (s : List ℕ) (at : ℕ) (words bytes : List ℕ) where
     read-refused x q = let e = told (W.Refused x) q in (e, (ap (λ (o : Result Ended). filledAfter o (setEntries s at) words) e, ap (λ (o : Result Ended). filledAfter o (bytesOf (setEntries s at)) bytes) e))
 
     module _ (v : ℕ) (next : Cursor) (q : o ≡ W.Value v next) (l : ℕ) (w : (versionOf l ≡ version 0 0) × (firstOf l ≡ stringSet)) where
-      filled : (f : List ℕ → List ℕ) (lent out : List ℕ) (k : ℕ) → Put lent 0 (f (entriesOf (piecesOf l s at))) out k
+      filled : (f : List ℕ → List ℕ) (lent out : List ℕ) (k : ℕ) → Put lent 0 (f (entriesOf (piecesThere l s at))) out k
           → out ≡ filledAfter (readStringSet s at (slotsIn words bytes)) (f (setEntries s at)) lent
       filled f lent out k p =
           put-sets lent _ out k p
-          ∙ ap (λ (x : Pieces). sets lent 0 (f (entriesOf x))) (pieces-of l (version 0 0) stringSet w s at ∙ ap (λ (t : Tree). run t s at) (sym (others .strings)))
+          ∙ ap (λ (x : Pieces). sets lent 0 (f (entriesOf x))) (layout-there l (tree-of l (version 0 0) stringSet w ∙ sym (others .strings)) s at (slotsIn words bytes) 0 blank _ (sym (told (W.Value v next) q)))
           ∙ ap (λ (o : Result Ended). filledAfter o (f (setEntries s at)) lent) (told (W.Value v next) q)
 
-      pub read-filled : (ws bs : List ℕ) (i k : ℕ) → Put words 0 (entriesOf (piecesOf l s at)) ws i → Put bytes 0 (bytesOf (entriesOf (piecesOf l s at))) bs k → SetRead (countRead (W.Value v next)) ws bs
+      pub read-filled : (ws bs : List ℕ) (i k : ℕ) → Put words 0 (entriesOf (piecesThere l s at)) ws i → Put bytes 0 (bytesOf (entriesOf (piecesThere l s at))) bs k → SetRead (countRead (W.Value v next)) ws bs
       read-filled ws bs i k a b = (told (W.Value v next) q, (filled (λ x. x) words ws i a, filled bytesOf bytes bs k b))
 
 -- one of the two rooms, the other one empty
@@ -160,22 +159,19 @@ module _ (s : List ℕ) (x : Record) where
   judge-passed zero at = refl
   judge-passed (suc n) at = pass-by (λ a. run (units passed 0 n (λ u. stop)) s a) (text-view (length s) (numberAt s at) at) (λ a. judge-passed n a)
 
-module _ (s : List ℕ) (at : ℕ) (r : Number) (e : numRead r ≡ peekNumber s at) (n : ℕ) (q : r ≡ Value n) (o : R.Passed)
-    (f : (b : Bool) (m : Role) → stays b m ≡ false → Passes b s (at + 8) (series m 0 0 n) o) where
+module _ (s : List ℕ) (at : ℕ) (r : Number) (e : numRead r ≡ peekNumber s at) (n : ℕ) (q : r ≡ Value n) (o : R.Passed) (f : (m : Role) → Passes s (at + 8) (series m 0 0 n) o) where
   abbrev to : R.Passed → Result ℕ
-  to o' = skipOf (S.passedTo o' (λ a. end a))
+  to o' = passedTo o' (λ a. ok a)
 
   skip-set-as : (o' : R.Passed) → o ≡ o' → toEnd s (withNumber blank 0 n) (to o') ≡ skipStringSet s at
-  unfolding judgeOf noted series strings run skipOf bare
+  unfolding judgeOf noted series strings run skipOf
   skip-set-as o' g =
       let k = number-known s at r e n q in
       rw (field-set passed (asNumber 0), ask-value s at n (k .1) (asNumber 0) (λ v. units passed 0 v (λ u. stop)) (k .0))
-      (sym (judge-passed s (withNumber blank 0 n) n (at + 8) ∙ ap (toEnd s (withNumber blank 0 n)) (series-skips s 0 (at + 8) 0 n o f (λ u. stop) ∙ ap to g)))
+      (sym (judge-passed s (withNumber blank 0 n) n (at + 8) ∙ ap (toEnd s (withNumber blank 0 n)) (f passed (λ u. stop) ∙ ap to g)))
 
   pub skip-set-past : (next : ℕ) → o ≡ R'.Past next → ok (record { found = withNumber blank 0 n; ends = next }) ≡ skipStringSet s at
-  unfolding skipOf
   skip-set-past next g = skip-set-as (R'.Past next) g
 
-  pub skip-set-refused : PastFrom (at + 8) o → (x : Refusal) → o ≡ R'.Refused x → refusedBy x ≡ skipStringSet s at
-  unfolding skipOf
-  skip-set-refused h x g = let z : x .stream ≡ 0 = subst (PastFrom (at + 8)) g h in rw z (skip-set-as (R'.Refused x) g)
+  pub skip-set-refused : (x : Refusal) → o ≡ R'.Refused x → refusedBy x ≡ skipStringSet s at
+  skip-set-refused x g = skip-set-as (R'.Refused x) g

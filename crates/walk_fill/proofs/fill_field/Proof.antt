@@ -1,51 +1,36 @@
--- `walk_fill::fill_field` meets its contract: framed data, or kept strings.
+-- `walk_fill::fill_field` meets its contract: framed data, a string, or what follows a number.
 use borrow.Author.Needs.{needs}
 use Rattle.walk_fill.proofs.fill_field.Statement.{statement}
 use Rattle.walk_fill.proofs.fill_field.Tie as tie
 use denote.Ref.{now}
-use Rattle.walk_fill.proofs.Folding.{copied-over, copied-past, copied-from, series-over, series-on, series-from}
-
-returns : tie.Need-returns
-returns c =
-    let (at-start, at-then1, at-copy-frames) : tie.Start × tie.Then1 × tie.After-copy-frames = search in
-    (copied-over (now (at-start .args .s)) _ _ _ _ _ _ _ _ _ _ (at-then1 .if1 .taken) (at-copy-frames .copy-frames .ensures .0) _ (c .before .k .given .1), tt)
-
-returns-2 : tie.Need-returns-2
-returns-2 c =
-    let (at-start, at-then1, at-copy-frames) : tie.Start × tie.Then1 × tie.After-copy-frames = search in (
-      copied-past (now (at-start .args .s)) _ _ _ _ _ _ _ _ _ _ (at-then1 .if1 .taken) (at-copy-frames .copy-frames .ensures .0) _ _ (c .before .k2 .given .1),
-      copied-from _ (at-copy-frames .copy-frames .result) (at-copy-frames .copy-frames .ensures .1) _ _ (c .before .k2 .given .1),
-    )
-
-returns-3 : tie.Need-returns-3
-returns-3 c =
-    let (at-start, at-fill-strings) : tie.Start × tie.After-fill-strings = search in
-    (series-over (now (at-start .args .s)) _ _ _ _ _ _ _ _ _ _ _ (at-fill-strings .fill-strings .ensures .0) _ _ (c .before .r .given .1), tt)
-
-returns-4 : tie.Need-returns-4
-returns-4 c =
-    let (at-start, at-fill-strings) : tie.Start × tie.After-fill-strings = search in (
-      series-on (now (at-start .args .s)) _ _ _ _ _ _ _ _ _ _ _ (at-fill-strings .fill-strings .ensures .0) _ _ _ (c .before .r2 .given .1),
-      series-from _ (at-fill-strings .fill-strings .result) (at-fill-strings .fill-strings .ensures .1) _ _ _ (c .before .r2 .given .1),
-    )
+use Rattle.walk_fill.proofs.Folding.{frames-field, text-field, number-field}
 
 pub fill-field-spec : {M : Type 1} → statement M
 fill-field-spec =
     tie.close
     (tie.spec
+    (λ c κs. let at-start : tie.Start = search in at-start .pre)
+    (λ c. search needs)
+    (λ c.
+    let (at-start, at-then1, at-copy-frames) : tie.Start × tie.Then1 × tie.After-copy-frames = search in (
+      frames-field (now (at-start .args .s)) _ _ _ _ _ _ _ _ _ (at-then1 .if1 .taken) _ (at-copy-frames .copy-frames .result) (at-copy-frames .copy-frames .ensures .0),
+      at-copy-frames .copy-frames .ensures .1,
+    ))
+    (λ c κs. let at-start : tie.Start = search in at-start .pre)
+    (λ c. search needs)
+    (λ c. search needs)
+    (λ c.
+    let (at-start, at-then2, at-fill-text) : tie.Start × tie.Then2 × tie.After-fill-text = search in (
+      text-field (now (at-start .args .s)) _ _ _ _ _ _ _ _ _ _ _ (at-fill-text .fill-text .result) (at-then2 .if2 .taken) (at-fill-text .fill-text .ensures .0),
+      at-fill-text .fill-text .ensures .1,
+    ))
+    (λ c. search needs)
     (λ c κs. search needs)
     (λ c. search needs)
     (λ c. search needs)
-    returns
-    (λ c. search needs)
-    (λ c. search needs)
-    returns-2
-    (λ c κs. search needs)
-    (λ c. search needs)
-    (λ c. search needs)
-    (λ c. search needs)
-    (λ c. search needs)
-    returns-3
-    (λ c. search needs)
-    (λ c. search needs)
-    returns-4)
+    (λ c.
+    let (at-start, at-else1, at-else2, at-fill-after) : tie.Start × tie.Else1 × tie.Else2 × tie.After-fill-after = search in (
+      number-field (now (at-start .args .s)) _ _ _ _ _ _ _ _ _ _ _ (at-fill-after .fill-after .result) (at-else2 .if2 .left) (at-else1 .if1 .left) _ (at-start .pre .1) (at-start .pre .0)
+          (at-fill-after .fill-after .ensures .0),
+      at-fill-after .fill-after .ensures .1,
+    )))

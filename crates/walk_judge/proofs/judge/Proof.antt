@@ -7,11 +7,11 @@ use mathlib.Core.Path.{refl}
 use Rattle.walk_judge.proofs.Answers.{refused-empty}
 use native.Mathlib.Omega.{arith}
 use Rattle.layouts.specs.Judge.{judgeOf, entriesOf}
-use Rattle.walk_items.specs.Items.{versionOf, piecesOf}
-use Rattle.walk_pass.specs.Passing.{fuelOf}
+use Rattle.walk_items.specs.Items.{versionOf, piecesOf, fuelOf}
+use Rattle.walk_items.proofs.Measure.{quiet-less}
 use Rattle.walk_take.specs.Taking.{ahead}
 use Rattle.walk_judge.specs.Judged.{gathered}
-use Rattle.walk_judge.proofs.Judging.{toCome, Going, going-start, going-end, going-quiet, going-refused, going-on, quiet-less, fed-less}
+use Rattle.walk_judge.proofs.Judging.{toCome, Going, going-start, going-end, going-quiet, going-refused, going-on, fed-less}
 
 abbrev Inv-loop : tie.InvT-loop
 Inv-loop s from layout slots room entries payload there numbers₀ counts₀ window₀ at₀ pc₀ reps₀ body₀ run₀ n₀ p₀ present₀ numbers counts window at pc reps body run n p present =

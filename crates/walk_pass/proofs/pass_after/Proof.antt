@@ -6,54 +6,33 @@ use denote.Ref.{now}
 use native.Mathlib.Omega.{arith}
 use Rattle.walk_pass.proofs.Passing.{took-past, set-after, pairs-after, true-after, type-after, typed-after, false-after, nothing-after}
 
-returns : tie.Need-returns
-returns c = let at-start : tie.Start = search in (set-after (now (at-start .args .s)) _ _ _ (c .pass .result) (c .before .if1 .taken) (c .pass .ensures .0), c .pass .ensures .1)
-
-returns-2 : tie.Need-returns-2
-returns-2 c = let at-start : tie.Start = search in (pairs-after (now (at-start .args .s)) _ _ _ (c .pass2 .result) (c .before .if2 .taken) (c .pass2 .ensures .0), c .pass2 .ensures .1)
-
-returns-3 : tie.Need-returns-3
-returns-3 c = let at-start : tie.Start = search in (false-after (now (at-start .args .s)) _ _ _ (c .before .if3 .taken) (c .if4 .taken), omega arith)
-
-returns-4 : tie.Need-returns-4
-returns-4 c =
-    let (at-start, at-then3) : tie.Start × tie.Then3 = search in (
-      true-after (now (at-start .args .s)) _ _ _ (c .pass-number .result) (at-then3 .if3 .taken) (c .before .if4 .left) (c .pass-number .ensures .0),
-      took-past (now (at-start .args .s)) _ (c .pass-number .result) (c .pass-number .ensures .1),
-    )
-
-returns-5 : tie.Need-returns-5
-returns-5 c =
-    let (at-start, at-then5) : tie.Start × tie.Then5 = search in (
-      type-after (now (at-start .args .s)) _ _ _ (c .pass-number2 .result) (at-then5 .if5 .taken) (c .before .if6 .taken) (c .pass-number2 .ensures .0),
-      took-past (now (at-start .args .s)) _ (c .pass-number2 .result) (c .pass-number2 .ensures .1),
-    )
-
-returns-6 : tie.Need-returns-6
-returns-6 c =
-    let (at-start, at-then5) : tie.Start × tie.Then5 = search in (
-      typed-after (now (at-start .args .s)) _ _ _ (c .pass-text .result) (at-then5 .if5 .taken) (c .before .if6 .left) (c .pass-text .ensures .0),
-      took-past (now (at-start .args .s)) _ (c .pass-text .result) (c .pass-text .ensures .1),
-    )
-
-returns-7 : tie.Need-returns-7
-returns-7 c =
-    let (at-start, at-else1, at-else2) : tie.Start × tie.Else1 × tie.Else2 = search in
-    (nothing-after (now (at-start .args .s)) _ _ _ (at-else1 .if1 .left) (at-else2 .if2 .left) (c .before .if3 .left) (c .if5 .left), omega arith)
-
 pub pass-after-spec : {M : Type 1} → statement M
 pass-after-spec =
     tie.close
     (tie.spec
     (λ c κs. search needs)
-    returns
+    (λ c. let at-start : tie.Start = search in (set-after (now (at-start .args .s)) _ _ _ (c .pass .result) (c .before .if1 .taken) (c .pass .ensures .0), c .pass .ensures .1))
     (λ c κs. search needs)
-    returns-2
-    returns-3
+    (λ c. let at-start : tie.Start = search in (pairs-after (now (at-start .args .s)) _ _ _ (c .pass2 .result) (c .before .if2 .taken) (c .pass2 .ensures .0), c .pass2 .ensures .1))
+    (λ c. let at-start : tie.Start = search in (false-after (now (at-start .args .s)) _ _ _ (c .before .if3 .taken) (c .if4 .taken), omega arith))
     (λ c κs. search needs)
-    returns-4
+    (λ c.
+    let (at-start, at-then3) : tie.Start × tie.Then3 = search in (
+      true-after (now (at-start .args .s)) _ _ _ (c .pass-number .result) (at-then3 .if3 .taken) (c .before .if4 .left) (c .pass-number .ensures .0),
+      took-past (now (at-start .args .s)) _ (c .pass-number .result) (c .pass-number .ensures .1),
+    ))
     (λ c κs. search needs)
-    returns-5
+    (λ c.
+    let (at-start, at-then5) : tie.Start × tie.Then5 = search in (
+      type-after (now (at-start .args .s)) _ _ _ (c .pass-number2 .result) (at-then5 .if5 .taken) (c .before .if6 .taken) (c .pass-number2 .ensures .0),
+      took-past (now (at-start .args .s)) _ (c .pass-number2 .result) (c .pass-number2 .ensures .1),
+    ))
     (λ c κs. search needs)
-    returns-6
-    returns-7)
+    (λ c.
+    let (at-start, at-then5) : tie.Start × tie.Then5 = search in (
+      typed-after (now (at-start .args .s)) _ _ _ (c .pass-text .result) (at-then5 .if5 .taken) (c .before .if6 .left) (c .pass-text .ensures .0),
+      took-past (now (at-start .args .s)) _ (c .pass-text .result) (c .pass-text .ensures .1),
+    ))
+    (λ c.
+    let (at-start, at-else1, at-else2) : tie.Start × tie.Else1 × tie.Else2 = search in
+    (nothing-after (now (at-start .args .s)) _ _ _ (at-else1 .if1 .left) (at-else2 .if2 .left) (c .before .if3 .left) (c .if5 .left), omega arith)))

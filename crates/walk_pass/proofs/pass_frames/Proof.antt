@@ -18,35 +18,20 @@ abbrev μ-loop : tie.MeasureT-loop
 abbrev At : (tie.InvT-loop → tie.MeasureT-loop → Type 0) → Type 0
 At place = place Inv-loop μ-loop
 
-loop-holds : tie.Need-loop-holds Inv-loop μ-loop
-loop-holds c = framing-start _ _
-
-returns : tie.Need-returns Inv-loop μ-loop
-returns c = let (at-loop, at-chunk-at) : At tie.At-loop × At tie.After-chunk-at = search in framing-wrong _ _ _ (at-loop .loop .inv) _ (at-chunk-at .chunk-at .ensures) _ (c .before .m .given .1)
-
-returns-2 : tie.Need-returns-2 Inv-loop μ-loop
-returns-2 c = let (at-loop, at-chunk-at) : At tie.At-loop × At tie.After-chunk-at = search in framing-last _ _ _ (at-loop .loop .inv) _ (at-chunk-at .chunk-at .ensures) _ (c .before .m2 .given .1)
-
-loop-less : tie.Need-loop-less Inv-loop μ-loop
-loop-less c =
-    let (at-start, at-chunk-at) : At tie.Start × At tie.After-chunk-at = search in
-    omega (arith, part-found (now (at-start .args .s)) _ _ (at-chunk-at .chunk-at .ensures) _ _ _ (c .before .m3 .given .1))
-
-loop-again : tie.Need-loop-again Inv-loop μ-loop
-loop-again c = let (at-loop, at-chunk-at) : At tie.At-loop × At tie.After-chunk-at = search in framing-on _ _ _ (at-loop .loop .inv) _ (at-chunk-at .chunk-at .ensures) _ _ _ (c .before .m3 .given .1)
-
 pub pass-frames-spec : {M : Type 1} → statement M
 pass-frames-spec =
     tie.close
     (tie.spec
     Inv-loop
     μ-loop
-    loop-holds
+    (λ c. framing-start _ _)
     (λ c κs. search needs)
     (λ c. search needs)
-    returns
+    (λ c. let (at-loop, at-chunk-at) : At tie.At-loop × At tie.After-chunk-at = search in framing-wrong _ _ _ (at-loop .loop .inv) _ (at-chunk-at .chunk-at .ensures) _ (c .before .m .given .1))
     (λ c. search needs)
-    returns-2
+    (λ c. let (at-loop, at-chunk-at) : At tie.At-loop × At tie.After-chunk-at = search in framing-last _ _ _ (at-loop .loop .inv) _ (at-chunk-at .chunk-at .ensures) _ (c .before .m2 .given .1))
     (λ c. search needs)
-    loop-less
-    loop-again)
+    (λ c.
+    let (at-start, at-chunk-at) : At tie.Start × At tie.After-chunk-at = search in
+    omega (arith, part-found (now (at-start .args .s)) _ _ (at-chunk-at .chunk-at .ensures) _ _ _ (c .before .m3 .given .1)))
+    (λ c. let (at-loop, at-chunk-at) : At tie.At-loop × At tie.After-chunk-at = search in framing-on _ _ _ (at-loop .loop .inv) _ (at-chunk-at .chunk-at .ensures) _ _ _ (c .before .m3 .given .1)))

@@ -7,12 +7,6 @@ use native.Mathlib.Omega.{arith}
 use Rattle.pieces.proofs.Numbers.{number-known}
 use Rattle.walk_pass.proofs.Moving.{quiet-moves, field-refused, field-moves, times-cut, times-moves}
 
-add-t13 : tie.Need-add-t13
-add-t13 c =
-    let (at-start, at-number-at) : tie.Start × tie.After-number-at = search in
-    let h = number-known (now (at-start .args .s)) _ _ (at-number-at .number-at .ensures) _ (c .before .m .given .1) in
-    omega arith
-
 pub pass-item-spec : {M : Type 1} → statement M
 pass-item-spec =
     tie.close
@@ -22,7 +16,7 @@ pass-item-spec =
     (λ c. search needs)
     (λ c.
     let (at-then2, at-pass-field) : tie.Then2 × tie.After-pass-field = search in
-    field-refused _ _ _ (at-then2 .if2 .taken) _ (at-pass-field .pass-field .ensures .0) _ (c .before .k .given .1) (at-pass-field .pass-field .ensures .1))
+    field-refused _ _ _ (at-then2 .if2 .taken) _ (at-pass-field .pass-field .ensures .0) _ (c .before .k .given .1))
     (λ c. search needs)
     (λ c.
     let (at-then2, at-pass-field) : tie.Then2 × tie.After-pass-field = search in
@@ -31,7 +25,9 @@ pass-item-spec =
     (λ c. search needs)
     (λ c κs. search needs)
     (λ c. search needs)
-    add-t13
+    (λ c.
+    let (at-start, at-number-at) : tie.Start × tie.After-number-at = search in
+    omega (arith, number-known (now (at-start .args .s)) _ _ (at-number-at .number-at .ensures) _ (c .before .m .given .1)))
     (λ c κs. search needs)
     (λ c.
     let (at-else1, at-else2, at-number-at) : tie.Else1 × tie.Else2 × tie.After-number-at = search in

@@ -2,9 +2,10 @@
 use borrow.Author.Needs.{needs}
 use Rattle.walk_read.proofs.fill_in.Statement.{statement}
 use Rattle.walk_read.proofs.fill_in.Tie as tie
+use Rattle.layouts.specs.Judge.{entriesOf, payloadOf}
 use Rattle.writers_output.specs.Numbers.{bytesOf}
 use Rattle.walk_rooms.proofs.Laws.{put-sets}
-use Rattle.walk_read.proofs.Filled.{from-window, no-payload}
+use Rattle.walk_read.proofs.Filled.{from-fold, from-window, no-payload}
 
 pub fill-in-spec : {M : Type 1} → statement M
 fill-in-spec =
@@ -14,7 +15,13 @@ fill-in-spec =
     (λ c. search needs)
     (λ c. search needs)
     (λ c. search needs)
-    (λ c. (search put-sets, (search put-sets, search needs)))
+    (λ c.
+    let (at-start, at-fill) : tie.Start × tie.After-fill = search in
+    let h = at-start .pre in
+    let g = at-fill .fill .ensures in (
+      from-fold _ _ _ _ _ h entriesOf _ _ (put-sets _ _ _ _ (g .0)),
+      (from-fold _ _ _ _ _ h (λ x. bytesOf (entriesOf x)) _ _ (put-sets _ _ _ _ (g .1 .0)), from-fold _ _ _ _ _ h (payloadOf _) _ _ (g .1 .1)),
+    ))
     (λ c κs. search needs)
     (λ c. search needs)
     (λ c. search needs)

@@ -4,9 +4,10 @@ use Rattle.walk_strings.proofs.pass.Statement.{statement}
 use Rattle.walk_strings.proofs.pass.Tie as tie
 use denote.Ref.{now}
 use Prim.Native.Nat.{_-_}
+use mathlib.Core.Path.{ap}
 use native.Mathlib.Omega.{arith}
 use lib.ListN.{length}
-use Rattle.walk_strings.proofs.Series.{Passing, passing-start, passing-end, passing-bad, passing-half, passing-on, expected-fits, passing-expected}
+use Rattle.walk_strings.proofs.Series.{textPassed, half-passed, Passing, passing-start, passing-end, passing-refused, passing-on, expected-fits, passing-expected}
 use Rattle.pieces.proofs.Nodes.{half-within, whole-found}
 
 abbrev Inv-loop : tie.InvT-loop
@@ -49,8 +50,8 @@ pass-spec =
     (λ c. search needs)
     (λ c.
     let (at-start, at-loop, at-after-next, at-m, at-text-at) : At tie.Start × At tie.At-loop × At tie.After-after-next × At tie.After-m × At tie.After-text-at = search in
-    passing-bad (now (at-start .args .s)) _ _ _ _ _ _ _ (at-loop .loop .inv) _ (at-after-next .after-next .ensures) _ _ (at-m .m .given .1) _ (at-text-at .text-at .ensures) _
-    (c .before .t .given .1))
+    passing-refused (now (at-start .args .s)) _ _ _ _ _ _ _ (at-loop .loop .inv) _ (at-after-next .after-next .ensures) _ _ (at-m .m .given .1) _ (at-text-at .text-at .ensures) _
+    (ap textPassed (c .before .t .given .1)))
     (λ c. search needs)
     (λ c.
     let (at-start, at-text-at) : At tie.Start × At tie.After-text-at = search in
@@ -58,8 +59,8 @@ pass-spec =
     (λ c κs. search needs)
     (λ c.
     let (at-start, at-loop, at-after-next, at-m, at-text-at, at-t2) : At tie.Start × At tie.At-loop × At tie.After-after-next × At tie.After-m × At tie.After-text-at × At tie.After-t2 = search in
-    passing-half (now (at-start .args .s)) _ _ _ _ _ _ _ (at-loop .loop .inv) _ (at-after-next .after-next .ensures) _ _ (at-m .m .given .1) _ (at-text-at .text-at .ensures) _ _
-    (at-t2 .t2 .given .1) _ (c .refuse .ensures))
+    passing-refused (now (at-start .args .s)) _ _ _ _ _ _ _ (at-loop .loop .inv) _ (at-after-next .after-next .ensures) _ _ (at-m .m .given .1) _ (at-text-at .text-at .ensures) _
+    (half-passed _ _ _ (at-t2 .t2 .given .1) _ (c .refuse .ensures)))
     (λ c. search needs)
     (λ c.
     let (at-start, at-text-at) : At tie.Start × At tie.After-text-at = search in
