@@ -10,8 +10,9 @@ import hold
 MEMORY = 1 << 30
 
 
-def requests(oracle, seed, count):
-    done = subprocess.run([oracle, "generate", str(seed), str(count)], stdout=subprocess.PIPE, check=True)
+def requests(oracle, seed, count, word="generate"):
+    """Of ported mode; the same in published mode by the word `published`."""
+    done = subprocess.run([oracle, word, str(seed), str(count)], stdout=subprocess.PIPE, check=True)
     return list(hold.requests(done.stdout))
 
 

@@ -1,4 +1,4 @@
-"""Requests to write a call (the probe's call 34), from a seed: good ones of every operation at every version, and then damaged ones."""
+"""Requests to write a call (the probe's call 34, or 98 in published mode), from a seed: good ones of every operation at every version, and then damaged ones."""
 import random
 import struct
 
@@ -9,8 +9,9 @@ CALL = 34
 TOP = 2**64 - 1
 VERSIONS = [(1, minor) for minor in range(9, 39)] + [(0, 0), (0, 255), (1, 0), (1, 255), (2, 0), (65535, 255)]
 PAYLOADS = [0, 1, 7, 8, 9, 32767, 32768, 32769, 65535, 65536, 65537, 100000]
-# The operations by their layout.
+# The operations by their layout; for published mode those that have another one there, and the others together.
 ALIKE = list({str(layout): [op for op in model.LAYOUTS if model.LAYOUTS[op] == layout] for layout in model.LAYOUTS.values()}.values())
+PUBLISHED = [*([op] for op in model.PUBLISHED), [op for op in model.LAYOUTS if op not in model.PUBLISHED]]
 # Characters at the edges of RFC 3629, and what is just beyond them.
 EDGES = [chr(x).encode() for x in (0, 0x41, 0x7F, 0x80, 0x7FF, 0x800, 0xD7FF, 0xE000, 0xFFFF, 0x10000, 0x10FFFF)]
 BAD = [
@@ -22,13 +23,13 @@ BAD = [
 class Wanted:
     """What is to be written, in parts that can be damaged."""
 
-    def __init__(self, dice, operation, version):
-        self.operation, self.version = operation, version
+    def __init__(self, dice, is_published, operation, version):
+        self.is_published, self.operation, self.version = is_published, operation, version
         self.numbers = [0] * (model.NUMBERS + model.COUNTS)
         self.bytes, self.entries, self.payload = b"", [], b""
         self.flags, self.counts = [], []
         try:
-            self.there = model.fields(operation, version)
+            self.there = model.fields(is_published, operation, version)
         except model.Refused:
             self.there = []
         for what, i in self.there:
@@ -67,9 +68,8 @@ class Wanted:
 
     def needed(self):
         """The room for it; some, where it is refused."""
-        q = self.request(2**20)
         try:
-            return len(model.call(q.operation, (q.major, q.minor), q.a, q.b, q.room))
+            return len(model.call(self.request(2**20)))
         except model.Refused:
             return 64
 
@@ -81,7 +81,8 @@ class Wanted:
 
     def request(self, room):
         b = self.b()
-        head = struct.pack("<7Q", CALL, self.operation, *self.version, 0, room, len(self.bytes))
+        number = CALL + hold.PUBLISHED * self.is_published
+        head = struct.pack("<7Q", number, self.operation, *self.version, 0, room, len(self.bytes))
         return hold.Request(head + self.bytes + struct.pack("<Q", len(b)) + b)
 
 
@@ -193,30 +194,31 @@ def lent(dice, needed):
     return dice.choice([*[needed] * 6, needed + 1, needed + 33, max(needed - 1, 0), 0])
 
 
-def damaged(dice, operation, version, damages):
-    w = Wanted(dice, operation, version)
+def damaged(dice, is_published, operations, damages):
+    w = Wanted(dice, is_published, dice.choice(operations), dice.choice(VERSIONS))
     for damage in damages:
         damage(w, dice)
     return w.request(lent(dice, w.needed()))
 
 
-def first(dice):
+def first(dice, is_published, alike):
     """Every operation at every version, once as it should be; and each layout with each damage, four times."""
     for operation in model.LAYOUTS:
         for version in VERSIONS:
-            w = Wanted(dice, operation, version)
+            w = Wanted(dice, is_published, operation, version)
             yield w.request(w.needed())
-    for operations in ALIKE:
+    for operations in alike:
         for damage in 4 * DAMAGES:
-            yield damaged(dice, dice.choice(operations), dice.choice(VERSIONS), [damage])
+            yield damaged(dice, is_published, operations, [damage])
 
 
-def requests(seed, count):
+def requests(seed, count, is_published):
     """The first ones, evenly spread where so few are asked for, and then others by chance."""
     dice = random.Random(seed)
-    table = list(first(dice))
+    alike = PUBLISHED if is_published else ALIKE
+    table = list(first(dice, is_published, alike))
     few = min(count, len(table))
     yield from (table[i * len(table) // few] for i in range(few))
     for _ in range(count - few):
         damages = [dice.choice(DAMAGES) for _ in range(dice.choice([0, 1, 1, 2, 2, 3]))]
-        yield damaged(dice, dice.choice(dice.choice(ALIKE)), dice.choice(VERSIONS), damages)
+        yield damaged(dice, is_published, dice.choice(alike), damages)

@@ -10,6 +10,8 @@ NAMES = {
     26: "mode text", 27: "N paths", 28: "N overrides",
     30: "extract_store_path", 31: "op_has_client_framed_data", 33: "version from wire",
 }
+# From here on a number is that of the call with a number as much lower, in published mode; there is room for as many calls in each mode.
+PUBLISHED = 64
 TAKES_SLOTS = {1, 3, 6, 7, 8, 14}
 TAKES_ROOM = {1, 3, 16}
 WRITES = {20, 21, 22, 23, 24, 26, 27, 28}
@@ -18,7 +20,9 @@ WRITES = {20, 21, 22, 23, 24, 26, 27, 28}
 class Request:
     def __init__(self, raw):
         self.raw = raw
-        self.call, self.operation, self.major, self.minor, self.slots, self.room, a = struct.unpack_from("<7Q", raw)
+        self.number, self.operation, self.major, self.minor, self.slots, self.room, a = struct.unpack_from("<7Q", raw)
+        self.is_published = PUBLISHED <= self.number < 2 * PUBLISHED
+        self.call = self.number - PUBLISHED * self.is_published
         self.a, self.b = raw[56:56 + a], raw[64 + a:]
 
 

@@ -1,4 +1,4 @@
-"""What write_op_args has to answer, by the text of request W-201 and by document 01's list of arguments. It shares nothing with the library or its definitions."""
+"""What write_op_args has to answer, by the texts of requests W-201 and W-203 and by document 01's list of arguments. It shares nothing with the library or its definitions."""
 import struct
 
 # A field is what it is, which number or count of the record it has, and the version from which it is there.
@@ -40,6 +40,11 @@ LAYOUTS = {
 }
 # Below this version no arguments are known.
 SINCE = {7: (1, 25)}
+# What published mode has instead of them.
+PUBLISHED = {
+    30: lambda version: [(PAIRS, 0, ALWAYS)] if version >= (1, 22) else [SS],
+    42: lambda version: [S, S] if version < (1, 31) else [S],
+}
 
 
 class Refused(Exception):
@@ -47,11 +52,11 @@ class Refused(Exception):
         self.number, self.place = number, place
 
 
-def fields(operation, version):
+def fields(is_published, operation, version):
     """The fields that are there."""
     if operation not in LAYOUTS:
         raise Refused(9)
-    layout = LAYOUTS[operation]
+    layout = PUBLISHED[operation](version) if is_published and operation in PUBLISHED else LAYOUTS[operation]
     if layout is None or version < SINCE.get(operation, ALWAYS):
         raise Refused(13)
     return [(what, i) for what, i, since in layout if version >= since]
@@ -118,15 +123,15 @@ def framed(payload):
     return b"".join(number(len(c)) + c for c in chunks) + number(0)
 
 
-def call(operation, version, a, b, room):
+def call(q):
     """The bytes of the arguments."""
-    there = fields(operation, version)
-    record, entries, payload = parts(b)
+    there = fields(q.is_published, q.operation, (q.major, q.minor))
+    record, entries, payload = parts(q.b)
     record = numbers(record)
     if not is_of_shape(there, record, payload):
         raise Refused(14)
     strings = used(there, record, len(entries) // ENTRY)
-    texts = iter([string(entries, index, a) for index in range(sum(strings))])
+    texts = iter([string(entries, index, q.a) for index in range(sum(strings))])
     out = b""
     for (what, i), count in zip(there, strings):
         if what in (NUMBER, FLAG, SET, PAIRS):
@@ -136,7 +141,7 @@ def call(operation, version, a, b, room):
         elif what == FRAMED:
             out += framed(payload)
         out += b"".join(next(texts) for _ in range(count))
-    if len(out) > room:
+    if len(out) > q.room:
         raise Refused(10)
     return out
 
@@ -144,7 +149,7 @@ def call(operation, version, a, b, room):
 def line(q):
     """The refusal's number, 0 for none, and the line that the probe has to write."""
     try:
-        out = call(q.operation, (q.major, q.minor), q.a, q.b, q.room)
+        out = call(q)
     except Refused as why:
         return why.number, f"no {why.number} {why.place} 0"
     zeros = ",".join("0" * NUMBERS)

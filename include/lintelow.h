@@ -11,6 +11,10 @@
  *
  * PAYLOAD. The bytes of framed data, joined.
  *
+ * MODES. What reads, skips or writes arguments takes a mode in front of the operation: 0 for the layouts of nix-wire (ported), any other number for those
+ * that daemons read (published). They differ in two operations. Published, 30 has pairs of path and content address from 1.22 on, in place of a set, and
+ * 42 has two strings below 1.31, in place of one.
+ *
  * THE ANSWER. A call returns 0, or the number of its refusal, and writes its answer into the first 200 bytes of the block: 25 little-endian numbers of
  * eight bytes.
  *
@@ -65,37 +69,48 @@ extern "C" {
 #define LINTELOW_BLOCK 200
 #define LINTELOW_ENTRY 16
 
+/* Modes. Every number but 0 is published. */
+#define LINTELOW_PORTED 0
+#define LINTELOW_PUBLISHED 1
+
 /* The arguments of operation `op`, read from the client's stream behind the operation's number, at version major.minor. Refusals 1, 2, 3, 4, 5, 9, 10.
  *
- *     kind                            entries              numbers                              counts
+ *     kind                            entries                    numbers                              counts
  *     0  None, nothing was consumed
  *     1  SinglePath                   path
  *     2  SingleString                 value
- *     3  PathSet                      paths                                                     paths
- *     4  PathSetFlag                  paths                substitute                           paths
- *     5  PathSetMode                  paths                mode                                 paths
+ *     3  PathSet                      paths                                                           paths
+ *     4  PathSetFlag                  paths                      substitute                           paths
+ *     5  PathSetMode                  paths                      mode                                 paths
  *     6  NoArgs
- *     7  SetOptions                   name, value, ..      the twelve, in the stream's order    pairs
- *     8  CollectGarbage               paths                action, ignore liveness, max freed   paths
- *     9  VerifyStore                                       check contents, repair
+ *     7  SetOptions                   name, value, ..            the twelve, in the stream's order    pairs
+ *     8  CollectGarbage               paths                      action, ignore liveness, max freed   paths
+ *     9  VerifyStore                                             check contents, repair
  *     10 AddPermRoot                  path, gc root
- *     11 AddSignatures                path, signatures                                          signatures
- *     12 AddTextToStore               suffix, text, refs                                        refs
- *     13 AddToStore, payload          name, cam, refs      repair                               refs
- *     14 AddMultipleToStore, payload                       repair, don't check
+ *     11 AddSignatures                path, signatures                                                signatures
+ *     12 AddTextToStore               suffix, text, refs                                              refs
+ *     13 AddToStore, payload          name, cam, refs            repair                               refs
+ *     14 AddMultipleToStore, payload                             repair, don't check
  *     15 AddBuildLog, payload         path
  *     16 RegisterDrvOutput            value
  *     17 QueryRealisation             value
  *     18 QuerySubstitutablePathInfo   path
- *     19 QuerySubstitutablePathInfos  paths                                                     paths */
-uint64_t lintelow_read_op_args(uint64_t op, uint16_t major, uint8_t minor, const uint8_t *s, size_t s_len, uint8_t *entries, size_t entries_len,
-                               uint8_t *payload, size_t payload_len, uint8_t *block, size_t block_len);
+ *     19 QuerySubstitutablePathInfos  paths                                                           paths
+ *     20 QuerySubstitutablePairs      path, content address, ..                                       pairs
+ *     21 RegisterDrvOutputOld         id, path
+ *
+ * Kinds 20 and 21 are of published mode: operation 30 from 1.22 on, 42 below 1.31. */
+uint64_t lintelow_read_op_args(uint8_t mode, uint64_t op, uint16_t major, uint8_t minor, const uint8_t *s, size_t s_len, uint8_t *entries,
+                               size_t entries_len, uint8_t *payload, size_t payload_len, uint8_t *block, size_t block_len);
 
 /* The same arguments passed over, up to framed data. No room is lent. Refusals 1, 2, 3 (of the string that is answered), 9, 10.
  *
  *     0 none, nothing was consumed; 1 the empty text; 2 one string: start and length are numbers 1 and 2, and one entry is reported;
- *     3 paths, 4 overrides: how many is number 0 */
-uint64_t lintelow_skip_op_args(uint64_t op, uint16_t major, uint8_t minor, const uint8_t *s, size_t s_len, uint8_t *block, size_t block_len);
+ *     3 paths, 4 overrides: how many is number 0
+ *
+ * In published mode the pairs of operation 30 are counted as paths; of 42's two strings the first is answered, and the second is not looked at. */
+uint64_t lintelow_skip_op_args(uint8_t mode, uint64_t op, uint16_t major, uint8_t minor, const uint8_t *s, size_t s_len, uint8_t *block,
+                               size_t block_len);
 
 /* The daemon's reply to operation `op`, read from behind Last. Refusals 1, 2, 3, 4, 5, 9, 10.
  *
@@ -192,8 +207,8 @@ uint64_t lintelow_write_mode(uint8_t *out, size_t out_len, uint64_t n, uint8_t *
 uint64_t lintelow_write_paths(uint8_t *out, size_t out_len, uint64_t n, uint8_t *block, size_t block_len);
 uint64_t lintelow_write_overrides(uint8_t *out, size_t out_len, uint64_t n, uint8_t *block, size_t block_len);
 
-/* The arguments of operation `op` at version major.minor, from what lintelow_read_op_args answers. Other than in the writers above, `out` stands behind
- * what is read.
+/* The arguments of operation `op` at version major.minor, from what lintelow_read_op_args answers in that mode. Other than in the writers above, `out`
+ * stands behind what is read.
  *
  *     record    fifteen numbers, the twelve and then the three counts: 120 bytes, as they stand at offset 64 of an answer block. Bytes that it lacks
  *               are 0, so a cut number keeps its low bytes; bytes beyond 120 are not looked at
@@ -214,9 +229,9 @@ uint64_t lintelow_write_overrides(uint8_t *out, size_t out_len, uint64_t n, uint
  *     10     the whole output doesn't fit                                                 0
  *
  * A count is any number: pairs of which there are 2^63 or more are above any entries, and 11 gives the number of pairs. */
-uint64_t lintelow_write_op_args(uint64_t op, uint16_t major, uint8_t minor, const uint8_t *record, size_t record_len, const uint8_t *bytes,
-                                size_t bytes_len, const uint8_t *entries, size_t entries_len, const uint8_t *payload, size_t payload_len, uint8_t *out,
-                                size_t out_len, uint8_t *block, size_t block_len);
+uint64_t lintelow_write_op_args(uint8_t mode, uint64_t op, uint16_t major, uint8_t minor, const uint8_t *record, size_t record_len,
+                                const uint8_t *bytes, size_t bytes_len, const uint8_t *entries, size_t entries_len, const uint8_t *payload,
+                                size_t payload_len, uint8_t *out, size_t out_len, uint8_t *block, size_t block_len);
 
 /* TESTS. */
 

@@ -30,6 +30,12 @@ rows =
 $rows
     []
 
+-- those that published mode has in place of some
+abbrev pub publishedRows : List Row
+publishedRows =
+$published
+    []
+
 -- the groups of the other layouts
 $others
 
@@ -99,7 +105,7 @@ $kinds
 $codes
 """
 
-OPERATIONS = """// $made: the operations as one constant table.
+OPERATIONS = """// $made: the operations as one constant table, and those that published mode has in place of some.
 use table::Row;
 use table::kinds as kind;
 use table::places as layout;
@@ -108,6 +114,12 @@ pub const COUNT: usize = $count;
 
 pub const OPERATIONS: [Row; COUNT] = [
 $rows
+];
+
+pub const PUBLISHED_COUNT: usize = $published_count;
+
+pub const PUBLISHED: [Row; PUBLISHED_COUNT] = [
+$published
 ];
 """
 
@@ -125,33 +137,44 @@ ROW = """    // $number. Arguments: $arguments_shape. Reply: $reply_shape
 ROW_CODES = """// $made: the rows of the operations, by number. A match becomes one load.
 ghost use Rattle.table_operations.specs.Rows.{rowOf};
 ghost use Rattle.table.specs.Table.{rowFor};
+ghost use Rattle.layouts.specs.declared.Mode.the-variants.{Ported, Published};
 ghost use mathlib.Core.Path.{_≡_};
 
-pub fn row_code(op: u64) -> u64
-    ensures { λ r. ⌜ rowOf op r ≡ rowFor op ⌝ }
+pub fn ported(op: u64) -> u64
+    ensures { λ r. ⌜ rowOf op r ≡ rowFor Ported op ⌝ }
 {
     match op {
 $arms
         _ => 0,
     }
 }
+
+pub fn published(op: u64) -> u64
+    ensures { λ r. ⌜ rowOf op r ≡ rowFor Published op ⌝ }
+{
+    match op {
+$published
+        _ => ported(op),
+    }
+}
 """
 
-ROW_CODES_PROOF = """-- $made: `row_code` arm by arm, and no row has another number.
-use Rattle.table_operations.proofs.rows.row_code.Statement.{statement}
-use Rattle.table_operations.proofs.rows.row_code.Tie as tie
+ROW_CODES_PROOF = """-- $made: `$mode` arm by arm, and $last.
+use Rattle.table_operations.proofs.rows.$mode.Statement.{statement}
+use Rattle.table_operations.proofs.rows.$mode.Tie as tie
 use mathlib.Core.Path.{refl}
+use Rattle.layouts.specs.declared.Mode.the-variants.{$variant}
 use Rattle.table.specs.Table.{findIn, rowFor}
 use Rattle.table_operations.specs.Rows.{rowOf}
-use Rattle.table_operations.proofs.Search.{arm, none}
+use Rattle.table_operations.proofs.Search.{arm, $law}
 
-pub row-code-spec : {M : Type 1} → statement M
+pub $mode-spec : {M : Type 1} → statement M
 unfolding rowOf rowFor findIn
-row-code-spec =
+$mode-spec =
     tie.close
     (tie.spec
-$arms
-    (λ c. none _ (c .match .rest)))
+$calls$arms
+    $answer)
 """
 
 KIND_CODES = """// $made: the kind that a code stands for. Only a code that a version or a flag decides is not its own kind.
@@ -211,6 +234,7 @@ def packed(t):
         size=str(len(t.packed.numbers)),
         packed=listed(t.packed),
         rows=(f"    op {' '.join(map(str, t.row_numbers(row)))} ∷" for row in t.rows),
+        published=(f"    op {' '.join(map(str, t.row_numbers(row)))} ∷" for row in t.published),
         others="\n\n".join(f"abbrev pub {name} : ℕ\n{name} = {t.places[groups]}" for name, groups in t.others.items()),
         first_code=str(FIRST_CODE),
         kinds=(f"    {numbered(kind)[1:-1]} ∷" for kind in t.kinds),
@@ -256,15 +280,28 @@ def operation(t, row):
 
 
 def operations(t):
-    return filled(OPERATIONS, count=str(len(t.rows)), rows=(operation(t, row) for row in t.rows))
+    rows, published = ([operation(t, row) for row in own] for own in (t.rows, t.published))
+    return filled(OPERATIONS, count=str(len(rows)), rows=rows, published_count=str(len(published)), published=published)
 
 
 def row_codes(t):
-    return filled(ROW_CODES, arms=(f"        {row['code']} => {t.row_code(row)}," for row in t.rows))
+    arms, published = ([f"        {row['code']} => {t.row_code(row)}," for row in own] for own in (t.rows, t.published))
+    return filled(ROW_CODES, arms=arms, published=published)
 
 
-def row_codes_proof(t):
-    return filled(ROW_CODES_PROOF, arms=(f"    (λ c. arm {t.row_code(row)} (c .match .keys{i}) refl)" for i, row in enumerate(t.rows, 1)))
+def row_codes_proof(t, own, mode, **words):
+    variant = mode.capitalize()
+    arms = (f"    (λ c. arm {variant} {t.row_code(row)} (c .match .keys{i}) refl)" for i, row in enumerate(own, 1))
+    return filled(ROW_CODES_PROOF, mode=mode, variant=variant, arms=arms, **words)
+
+
+def ported_proof(t):
+    return row_codes_proof(t, t.rows, mode="ported", law="none", last="no row has another number", calls="", answer="(λ c. none _ (c .match .rest))")
+
+
+def published_proof(t):
+    answer = "(λ c. others _ (c .ported .result) (c .before .match .rest) (c .ported .ensures))"
+    return row_codes_proof(t, t.published, mode="published", law="others", last="with another number the other rows decide", calls="    (λ c κs. tt)\n", answer=answer)
 
 
 # ---- kinds that a version or a flag decides
@@ -339,7 +376,8 @@ def files(t):
         "crates/table_code/proofs/packed/code/Proof.antt": codes_proof(t.packed),
         "crates/table_code/src/operations.rt": operations(t),
         "crates/table_operations/src/rows.rt": row_codes(t),
-        "crates/table_operations/proofs/rows/row_code/Proof.antt": row_codes_proof(t),
+        "crates/table_operations/proofs/rows/ported/Proof.antt": ported_proof(t),
+        "crates/table_operations/proofs/rows/published/Proof.antt": published_proof(t),
         "crates/table_operations/src/decided.rt": kind_codes(t),
         "crates/table_operations/proofs/decided/decided/Proof.antt": kind_codes_proof(t),
     }

@@ -19,13 +19,13 @@ NONE = "NONE"
 # ---- what is claimed
 
 
-def rows_wanted():
-    """The right side of `rows-say`."""
+def rows_wanted(claim):
+    """The right side of `rows-say` or `published-say`."""
     claims = load(CLAIMS)
-    rows = claims.compute(sides(claims.types["rows-say"])[1], {})
+    rows = claims.compute(sides(claims.types[claim])[1], {})
     numbers = [row["code"] for row in rows]
     if len(set(numbers)) < len(numbers):
-        raise Fault("two operations have one number", f"{OPERATIONS}: operations")
+        raise Fault(f"two operations of {claim} have one number", OPERATIONS)
     return rows
 
 
@@ -62,7 +62,7 @@ def once(items):
     return (Con("once", (items,)),)
 
 
-def layout_names(rows, others):
+def layout_names(rows, published, others):
     """Each layout of an operation: the name of the definition that it is, or else of the first operation that has it."""
     names = {(): "NO_GROUPS", once(()): "NO_FIELDS"}
     taken = {constant(name) for name in others}
@@ -71,9 +71,10 @@ def layout_names(rows, others):
         if words in (["List", "Gated"], ["List", "Group"]) and constant(name) not in taken:
             value = definitions.value(name)
             names.setdefault(once(value) if words[1] == "Gated" else value, constant(name))
-    for row in rows:
-        for column, field in LAYOUTS.items():
-            names.setdefault(row[column], f"{constant(field)}_{row['code']}")
+    for mode, own in (("", rows), ("PUBLISHED_", published)):
+        for row in own:
+            for column, field in LAYOUTS.items():
+                names.setdefault(row[column], f"{mode}{constant(field)}_{row['code']}")
     return names
 
 
@@ -204,16 +205,17 @@ GROUP_UNIT = 4 * 64
 
 class Tables:
     def __init__(self):
-        self.rows, self.others = rows_wanted(), others_wanted()
-        self.names = layout_names(self.rows, self.others)
-        layouts = [row[column] for row in self.rows for column in LAYOUTS] + list(self.others.values())
+        self.rows, self.published, self.others = rows_wanted("rows-say"), rows_wanted("published-say"), others_wanted()
+        self.names = layout_names(self.rows, self.published, self.others)
+        every = [*self.rows, *self.published]
+        layouts = [row[column] for row in every for column in LAYOUTS] + list(self.others.values())
         self.fields, self.groups = Sequences(), Sequences()
         # the longest first, so that others can be the end of one
         for items in sorted((group.args[-1] for groups in layouts for group in groups), key=len, reverse=True):
             within(f"the fields {letters_of(items)}", self.place_fields, items)
         self.places = {groups: within(f"the layout {shape_of(groups)}", self.place_runs, groups) for groups in layouts}
         self.packed = self.joined_tables()
-        kinds = [row[column] for row in self.rows for column in ANSWERS]
+        kinds = [row[column] for row in every for column in ANSWERS]
         self.kinds = [kind for kind in dict.fromkeys(kinds) if kind.name != "just"]
 
     def joined_tables(self):
@@ -243,7 +245,8 @@ class Tables:
         return kind_name(kind) if len(kind_name(kind)) <= 68 else f"DECIDED_{self.kind_code(kind)}"
 
     def kind_users(self, kind):
-        return ", ".join(f"{field.removesuffix('_kind')} of {row['code']}" for row in self.rows for column, field in ANSWERS.items() if row[column] == kind)
+        users = [(row, "") for row in self.rows] + [(row, " in published mode") for row in self.published]
+        return ", ".join(f"{field.removesuffix('_kind')} of {row['code']}{mode}" for row, mode in users for column, field in ANSWERS.items() if row[column] == kind)
 
     def row_numbers(self, row):
         return [row["code"], *(self.places[row[column]] for column in LAYOUTS), *(self.kind_code(row[column]) for column in ANSWERS)]

@@ -1,5 +1,5 @@
 /* Calls each function of include/lintelow.h, from C and from C++: a success, a refusal, nothing at all (null pointers of length 0), and blocks that are a
- * byte too short and a byte longer than needed. */
+ * byte too short and a byte longer than needed; where it takes a mode, each of them. */
 #include "lintelow.h"
 
 #include <stdio.h>
@@ -97,7 +97,8 @@ static void arguments(void) {
     number(2), memcpy(s + s_len, "ab", 2), s_len += 2;
     number(1), s[s_len++] = 'c';
     number(0);
-    CALLED("read_op_args", 0, lintelow_read_op_args(7, 1, 38, s, s_len, entries, sizeof entries, payload, sizeof payload, block, n));
+    CALLED("read_op_args", 0,
+           lintelow_read_op_args(LINTELOW_PORTED, 7, 1, 38, s, s_len, entries, sizeof entries, payload, sizeof payload, block, n));
     EXPECT("kind", at(block, KIND), 13);
     EXPECT("end", at(block, END), s_len);
     EXPECT("entries", at(block, ENTRIES), 3);
@@ -109,23 +110,81 @@ static void arguments(void) {
     EXPECT("slots kept", filled(entries, sizeof entries), sizeof entries - 3 * LINTELOW_ENTRY);
     EXPECT("payload's bytes", (uint64_t)memcmp(payload, "abc", 3), 0);
     EXPECT("room kept", filled(payload, sizeof payload), sizeof payload - 3);
-    CALLED("read_op_args, 2 slots", 4, lintelow_read_op_args(7, 1, 38, s, s_len, entries, 47, payload, sizeof payload, block, n));
+    CALLED("read_op_args, 2 slots", 4,
+           lintelow_read_op_args(LINTELOW_PORTED, 7, 1, 38, s, s_len, entries, 47, payload, sizeof payload, block, n));
     EXPECT("place", at(block, PLACE), 48);
-    CALLED("read_op_args, 2 bytes of room", 5, lintelow_read_op_args(7, 1, 38, s, s_len, entries, sizeof entries, payload, 2, block, n));
+    CALLED("read_op_args, 2 bytes of room", 5,
+           lintelow_read_op_args(LINTELOW_PORTED, 7, 1, 38, s, s_len, entries, sizeof entries, payload, 2, block, n));
     EXPECT("place", at(block, PLACE), s_len - 17);
 
-    CALLED("skip_op_args", 0, lintelow_skip_op_args(7, 1, 38, s, s_len, block, n));
+    CALLED("skip_op_args", 0, lintelow_skip_op_args(LINTELOW_PORTED, 7, 1, 38, s, s_len, block, n));
     EXPECT("kind", at(block, KIND), 2);
     EXPECT("end", at(block, END), s_len - 27);
     EXPECT("entries", at(block, ENTRIES), 1);
     EXPECT("start", at(block, NUMBERS + 1), 8);
     EXPECT("length", at(block, NUMBERS + 2), 4);
-    CALLED("skip_op_args, unknown", 9, lintelow_skip_op_args(0, 1, 38, s, s_len, block, n));
+    CALLED("skip_op_args, unknown", 9, lintelow_skip_op_args(LINTELOW_PORTED, 0, 1, 38, s, s_len, block, n));
 
-    CALLED("read_op_args of nothing", 0, lintelow_read_op_args(13, 1, 38, NULL, 0, NULL, 0, NULL, 0, block, n));
+    CALLED("read_op_args of nothing", 0, lintelow_read_op_args(LINTELOW_PUBLISHED, 13, 1, 38, NULL, 0, NULL, 0, NULL, 0, block, n));
     EXPECT("kind", at(block, KIND), 6);
-    CALLED("skip_op_args of nothing", 0, lintelow_skip_op_args(13, 1, 38, NULL, 0, block, n));
+    CALLED("skip_op_args of nothing", 0, lintelow_skip_op_args(LINTELOW_PUBLISHED, 13, 1, 38, NULL, 0, block, n));
     EXPECT("kind", at(block, KIND), 1);
+}
+
+/* What one mode makes of arguments. */
+struct reading {
+    uint64_t kind, end, entries, count;
+};
+
+/* The stream, read, skipped, and written again from what was read: the same bytes. */
+static void read_in(int line, uint8_t mode, uint64_t op, uint8_t minor, struct reading of) {
+    static uint8_t out[sizeof s], again[LINTELOW_BLOCK];
+    CALLED("read_op_args in a mode", 0, lintelow_read_op_args(mode, op, 1, minor, s, s_len, entries, sizeof entries, NULL, 0, block, n));
+    expect(line, "kind", at(block, KIND), of.kind);
+    expect(line, "end", at(block, END), of.end);
+    expect(line, "entries", at(block, ENTRIES), of.entries);
+    expect(line, "count", at(block, COUNTS), of.count);
+    expect(line, "written",
+           lintelow_write_op_args(mode, op, 1, minor, block + 64, 120, s, s_len, entries, LINTELOW_ENTRY * of.entries, NULL, 0, out, sizeof out, again,
+                                  sizeof again),
+           0);
+    expect(line, "length", at(again, END), of.end);
+    expect(line, "the same bytes", (uint64_t)memcmp(out, s, of.end), 0);
+    CALLED("skip_op_args in a mode", 0, lintelow_skip_op_args(mode, op, 1, minor, s, s_len, block, n));
+    expect(line, "kind", at(block, KIND), op == 30 ? 3 : 2);
+    expect(line, "end", at(block, END), of.end);
+    expect(line, "paths", at(block, NUMBERS), of.count);
+}
+
+/* The two operations in which modes differ, with the smallest bytes that show it, on both sides of their versions. */
+static void modes(void) {
+    static const struct reading set = {19, 16, 1, 1}, pairs = {20, 24, 2, 1}, one = {16, 8, 1, 0}, two = {21, 16, 2, 0};
+    static const uint8_t published[4] = {LINTELOW_PUBLISHED, 2, 128, 255};
+    size_t i;
+    s_len = 0; /* QuerySubstitutablePathInfos: one path, and what may be its content address */
+    number(1), number(0), number(0);
+    read_in(__LINE__, LINTELOW_PORTED, 30, 21, set);
+    read_in(__LINE__, LINTELOW_PORTED, 30, 22, set);
+    for (i = 0; i < sizeof published; i++) {
+        read_in(__LINE__, published[i], 30, 21, set);
+        read_in(__LINE__, published[i], 30, 22, pairs);
+    }
+    s_len = 0; /* RegisterDrvOutput: an id, and what may be its path */
+    number(0), number(0);
+    read_in(__LINE__, LINTELOW_PORTED, 42, 30, one);
+    read_in(__LINE__, LINTELOW_PORTED, 42, 31, one);
+    for (i = 0; i < sizeof published; i++) {
+        read_in(__LINE__, published[i], 42, 30, two);
+        read_in(__LINE__, published[i], 42, 31, one);
+    }
+    s_len = 0; /* the path is no text */
+    number(0), number(1), number(0xff);
+    CALLED("read_op_args, the second no text", 3,
+           lintelow_read_op_args(LINTELOW_PUBLISHED, 42, 1, 30, s, s_len, entries, sizeof entries, NULL, 0, block, n));
+    EXPECT("place", at(block, PLACE), 16);
+    CALLED("skip_op_args, the second no text", 0, lintelow_skip_op_args(LINTELOW_PUBLISHED, 42, 1, 30, s, s_len, block, n));
+    EXPECT("end", at(block, END), 24);
+    EXPECT("start of the first", at(block, NUMBERS + 1), 8);
 }
 
 static void replies(void) {
@@ -337,7 +396,8 @@ static void writers(void) {
 }
 
 /* Arguments at 1.38 that are written from a record of `given` bytes, the three bytes c and the entry e. */
-#define WRITE(op, record, given, c, e, room) lintelow_write_op_args(op, 1, 38, record, given, c, 3, e, LINTELOW_ENTRY, NULL, 0, payload, room, block, n)
+#define WRITE(op, record, given, c, e, room) \
+    lintelow_write_op_args(LINTELOW_PORTED, op, 1, 38, record, given, c, 3, e, LINTELOW_ENTRY, NULL, 0, payload, room, block, n)
 
 static void calls(void) {
     static const uint8_t abc[3] = {'a', 'b', 'c'}, bad[3] = {'a', 0xff, 'c'};
@@ -364,19 +424,21 @@ static void calls(void) {
     CALLED("write_op_args, bad entry", 12, WRITE(1, NULL, 0, bad, past, 15));
     CALLED("write_op_args, bad text", 3, WRITE(1, NULL, 0, bad, one, 15));
     CALLED("write_op_args, 15 bytes of room", 10, WRITE(1, NULL, 0, abc, one, 15));
-    CALLED("write_op_args, no such payload", 14, lintelow_write_op_args(13, 1, 38, NULL, 0, NULL, 0, NULL, 0, abc, 3, payload, sizeof payload, block, n));
-    CALLED("write_op_args of nothing", 0, lintelow_write_op_args(13, 1, 38, NULL, 0, NULL, 0, NULL, 0, NULL, 0, NULL, 0, block, n));
+    CALLED("write_op_args, no such payload", 14,
+           lintelow_write_op_args(LINTELOW_PORTED, 13, 1, 38, NULL, 0, NULL, 0, NULL, 0, abc, 3, payload, sizeof payload, block, n));
+    CALLED("write_op_args of nothing", 0,
+           lintelow_write_op_args(LINTELOW_PUBLISHED, 13, 1, 38, NULL, 0, NULL, 0, NULL, 0, NULL, 0, NULL, 0, block, n));
     EXPECT("end", at(block, END), 0);
 
     s_len = 0; /* AddToStore, written again from its own block */
     string("name"), string("text:sha256"), number(1), string("/nix/store/x"), number(1);
     number(3), memcpy(s + s_len, "abc", 3), s_len += 3;
     number(0);
-    EXPECT("read", lintelow_read_op_args(7, 1, 38, s, s_len, strings, sizeof strings, joined, sizeof joined, read, sizeof read), 0);
+    EXPECT("read", lintelow_read_op_args(LINTELOW_PORTED, 7, 1, 38, s, s_len, strings, sizeof strings, joined, sizeof joined, read, sizeof read), 0);
     memset(out, FILL, sizeof out);
     CALLED("write_op_args of what was read", 0,
-           lintelow_write_op_args(7, 1, 38, read + 64, 120, s, s_len, strings, LINTELOW_ENTRY * at(read, ENTRIES), joined, at(read, PAYLOAD), out,
-                                  sizeof out, block, n));
+           lintelow_write_op_args(LINTELOW_PORTED, 7, 1, 38, read + 64, 120, s, s_len, strings, LINTELOW_ENTRY * at(read, ENTRIES), joined,
+                                  at(read, PAYLOAD), out, sizeof out, block, n));
     EXPECT("end", at(block, END), s_len);
     EXPECT("length", at(block, PAYLOAD), s_len);
     EXPECT("the same bytes", (uint64_t)memcmp(out, s, s_len), 0);
@@ -412,6 +474,7 @@ static void tests(void) {
 
 int main(void) {
     arguments();
+    modes();
     replies();
     messages();
     handshakes();

@@ -1,12 +1,13 @@
 //! Our side at the C boundary: the functions of include/lintelow.h, with a block and rooms lent to them, and nothing else.
 use super::{Call, Caller, Calls, Room, What};
-use lintelow::Version;
+use lintelow::{Mode, Version};
 
-/// Readers by operation and version.
+/// Readers by operation and version, and of arguments by mode.
 macro_rules! of_an_operation {
-    ($($function:ident)*) => {
+    ($($function:ident($($mode:ident)?);)*) => {
         extern "C" {
             $(fn $function(
+                $($mode: u8,)?
                 op: u64,
                 major: u16,
                 minor: u8,
@@ -23,15 +24,20 @@ macro_rules! of_an_operation {
     };
 }
 
-of_an_operation! { lintelow_read_op_args lintelow_read_daemon_result }
+of_an_operation! {
+    lintelow_read_op_args(mode);
+    lintelow_read_daemon_result();
+}
 
 extern "C" {
-    fn lintelow_skip_op_args(op: u64, major: u16, minor: u8, s: *const u8, s_len: usize, block: *mut u8, block_len: usize) -> u64;
+    fn lintelow_skip_op_args(mode: u8, op: u64, major: u16, minor: u8, s: *const u8, s_len: usize, block: *mut u8, block_len: usize) -> u64;
     fn lintelow_read_stderr_with_error(s: *const u8, s_len: usize, entries: *mut u8, entries_len: usize, block: *mut u8, block_len: usize) -> u64;
     fn lintelow_read_stderr_loop(s: *const u8, s_len: usize, block: *mut u8, block_len: usize) -> u64;
     fn lintelow_skip_daemon_result(op: u64, major: u16, minor: u8, s: *const u8, s_len: usize, block: *mut u8, block_len: usize) -> u64;
 }
 
+/// That of the Rust, which it is measured against.
+pub const MODE: u8 = Mode::Ported as u8;
 pub const BLOCK: usize = 200;
 /// Where the block has the end.
 pub const END: usize = 8 * 4;
@@ -57,8 +63,8 @@ impl<'s> Boundary<'s> {
         // SAFETY: the declarations are those of the header; each pointer goes with the length of its own slice, and what is lent overlaps nothing.
         unsafe {
             match self.what {
-                What::ReadArguments => lintelow_read_op_args(op, major, minor, s, length, entries, slots, payload, room, block, BLOCK),
-                What::SkipArguments => lintelow_skip_op_args(op, major, minor, s, length, block, BLOCK),
+                What::ReadArguments => lintelow_read_op_args(MODE, op, major, minor, s, length, entries, slots, payload, room, block, BLOCK),
+                What::SkipArguments => lintelow_skip_op_args(MODE, op, major, minor, s, length, block, BLOCK),
                 What::StderrWithError => lintelow_read_stderr_with_error(s, length, entries, slots, block, BLOCK),
                 What::StderrLoop => lintelow_read_stderr_loop(s, length, block, BLOCK),
                 What::ReadReply => lintelow_read_daemon_result(op, major, minor, s, length, entries, slots, payload, room, block, BLOCK),

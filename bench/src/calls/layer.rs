@@ -1,6 +1,6 @@
 //! Our side by the crate for Rust, its layer `raw`.
 use super::{Call, Caller, Calls, Room, What};
-use lintelow::{raw, Answer, Refusal};
+use lintelow::{raw, Answer, Mode, Refusal};
 use std::hint::black_box;
 
 pub struct Layer<'s> {
@@ -18,8 +18,8 @@ impl<'s> Layer<'s> {
         let Call { op, version, bytes } = *call;
         let Room { entries, payload } = &mut self.room;
         match self.what {
-            What::ReadArguments => taken(raw::read_op_args(op, version, bytes, entries, payload)),
-            What::SkipArguments => taken(raw::skip_op_args(op, version, bytes)),
+            What::ReadArguments => taken(raw::read_op_args(Mode::Ported, op, version, bytes, entries, payload)),
+            What::SkipArguments => taken(raw::skip_op_args(Mode::Ported, op, version, bytes)),
             What::StderrWithError => taken(raw::read_stderr_with_error(bytes, entries)),
             What::StderrLoop => taken(raw::read_stderr_loop(bytes)),
             What::ReadReply => taken(raw::read_daemon_result(op, version, bytes, entries, payload)),

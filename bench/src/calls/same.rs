@@ -1,6 +1,6 @@
 //! Whether both sides read a call, and that they read the same.
 use super::{Call, Room, What};
-use lintelow::{raw, Answer, Refusal};
+use lintelow::{raw, Answer, Mode, Refusal};
 use nix_wire::answer::{self, Answer as Theirs};
 use nix_wire::line::Line;
 use nix_wire::request::Request;
@@ -21,8 +21,8 @@ fn ours<'r>(what: What, call: &Call, room: &'r mut Room) -> Result<Answer<'r>, R
     let Call { op, version, bytes } = *call;
     let Room { entries, payload } = room;
     match what {
-        What::ReadArguments => raw::read_op_args(op, version, bytes, entries, payload),
-        What::SkipArguments => raw::skip_op_args(op, version, bytes),
+        What::ReadArguments => raw::read_op_args(Mode::Ported, op, version, bytes, entries, payload),
+        What::SkipArguments => raw::skip_op_args(Mode::Ported, op, version, bytes),
         What::ReadReply => raw::read_daemon_result(op, version, bytes, entries, payload),
         What::SkipReply => raw::skip_daemon_result(op, version, bytes),
         What::StderrLoop => raw::read_stderr_loop(bytes),
@@ -41,7 +41,7 @@ fn theirs(what: What, call: &Call) -> Option<Line> {
 
 /// The text that nix-wire answers where it skips arguments.
 fn text(call: &Call) -> Option<String> {
-    lintelow::skip_op_args(call.op, call.version, call.bytes).ok()?.0.text()
+    lintelow::skip_op_args(Mode::Ported, call.op, call.version, call.bytes).ok()?.0.text()
 }
 
 fn agree(what: What, call: &Call, ours: &Answer, theirs: &Line) -> bool {

@@ -1,12 +1,13 @@
 //! Calls written from what was read of them, beside the time of reading them: both at the C boundary, by the functions of include/lintelow.h.
-use super::boundary::{Boundary, BLOCK, END};
+use super::boundary::{Boundary, BLOCK, END, MODE};
 use super::{allocated, Call, Caller, Calls, Pass, Room, What};
 use crate::measure;
 use lintelow::raw::{self, RECORD};
-use lintelow::Version;
+use lintelow::{Mode, Version};
 
 extern "C" {
     fn lintelow_write_op_args(
+        mode: u8,
         op: u64,
         major: u16,
         minor: u8,
@@ -37,7 +38,8 @@ struct Found<'s> {
 impl<'s> Found<'s> {
     fn of(call: &Call<'s>) -> Found<'s> {
         let mut room = Room::enough(&[*call]);
-        let answer = raw::read_op_args(call.op, call.version, call.bytes, &mut room.entries, &mut room.payload).expect("a call that is read");
+        let answer =
+            raw::read_op_args(Mode::Ported, call.op, call.version, call.bytes, &mut room.entries, &mut room.payload).expect("a call that is read");
         Found {
             call: *call,
             record: answer.record(),
@@ -79,6 +81,7 @@ impl<'s> Writer<'s> {
         // SAFETY: the declaration is that of the header; each pointer goes with the length of its own slice, and what is lent overlaps nothing.
         let refusal = unsafe {
             lintelow_write_op_args(
+                MODE,
                 *op,
                 *major,
                 *minor,

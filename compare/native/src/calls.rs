@@ -71,7 +71,7 @@ fn one(index: usize, read: &Request, lent: &mut Lent, tally: &mut Tally) {
     let q = request(read, &line, room(index, theirs.as_ref().map_or(0, Vec::len)));
     let ours = ask(&q, lent);
     let verdict = judge(&q, &line, theirs.as_deref(), &ours);
-    tally.count(q.call, verdict as usize);
+    tally.count(&q, verdict as usize);
     if verdict == Verdict::Different {
         let theirs = theirs.map_or(Line::of_kind(0), Line::written);
         tally.differs(index, &q, theirs.to_string(), ours.to_string());
@@ -82,8 +82,10 @@ fn one(index: usize, read: &Request, lent: &mut Lent, tally: &mut Tally) {
 pub fn run(seed: u64, count: usize) -> bool {
     let began = Instant::now();
     let (mut lent, mut tally) = (Lent::new(), Tally::new(&Verdict::NAMES));
-    for (index, q) in streams(seed).take(count).enumerate() {
-        one(index, &q, &mut lent, &mut tally);
+    for is_published in [false, true] {
+        for (index, q) in streams(seed, is_published).take(count).enumerate() {
+            one(index, &q, &mut lent, &mut tally);
+        }
     }
     tally.print();
     tally.conclude(&format!("to write a call, read back by the Rust, of seed {seed}"), began)

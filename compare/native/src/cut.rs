@@ -2,7 +2,7 @@
 use crate::judge::{judge, Verdict};
 use crate::lent::Lent;
 use crate::limit::row;
-use crate::ours::{ask_at, calls, takes_place, Said, Success, PLACES};
+use crate::ours::{ask_at, in_both_modes, name, takes_place, Said, Success, PLACES};
 use crate::requests::by_threads;
 use crate::tally::Tally;
 use lintelow::raw;
@@ -74,7 +74,7 @@ impl Changed<'_> {
     }
 
     fn differs(&mut self, rust: Answer, ours: Said) {
-        self.tally.count(self.q.call, DIFFERENT);
+        self.tally.count(&self.q, DIFFERENT);
         let ours = format!("{ours}, at place {} with {} bytes before it", self.at, self.before);
         self.tally.differs(self.index, &self.q, rust.to_string(), ours);
     }
@@ -82,7 +82,7 @@ impl Changed<'_> {
     fn hold(&mut self, due: &Due) {
         let (rust, ours) = self.both();
         if due.is_met(judge(&self.q, &rust, &ours), &ours) {
-            self.tally.count(self.q.call, due.column());
+            self.tally.count(&self.q, due.column());
         } else {
             self.differs(rust, ours);
         }
@@ -93,7 +93,7 @@ impl Changed<'_> {
         let (rust, ours) = self.both();
         match judge(&self.q, &rust, &ours) {
             Verdict::Same => {
-                self.tally.count(self.q.call, WHOLE);
+                self.tally.count(&self.q, WHOLE);
                 return ours.answer.ok();
             }
             // no text, or too few bytes for a number
@@ -149,7 +149,7 @@ impl Changed<'_> {
     }
 }
 
-/// A call, and operation and version, both versions or the place.
+/// The number of call and mode, and operation and version, both versions or the place.
 type Tried = (u64, [u64; 4]);
 
 fn tried(q: &Request, at: usize, whole: &Success) -> Tried {
@@ -158,7 +158,7 @@ fn tried(q: &Request, at: usize, whole: &Success) -> Tried {
         7 | 8 => [q.major, q.minor, whole.numbers[2], whole.numbers[3]],
         _ => [at as u64, 0, 0, 0],
     };
-    (q.call, what)
+    (q.number(), what)
 }
 
 fn one(index: usize, q: Request, lent: &mut Lent, tally: &mut Tally) -> Option<Tried> {
@@ -177,9 +177,9 @@ fn operations() -> usize {
     (0..1000).filter(|&op| raw::op_has_client_framed_data(op).is_ok()).count()
 }
 
-fn to_be_tried(call: u64) -> usize {
-    match call {
-        1..=4 => operations() * VERSIONS,
+fn to_be_tried(number: u64) -> usize {
+    match number {
+        1..=4 | 65 | 66 => operations() * VERSIONS,
         7 | 8 => VERSIONS * VERSIONS,
         9..=17 => PLACES,
         _ => 0,
@@ -189,10 +189,10 @@ fn to_be_tried(call: u64) -> usize {
 /// A stream that nobody passes is not cut: that must not look like success.
 fn are_all_tried(all: &BTreeSet<Tried>) -> bool {
     let mut are_all = true;
-    for (call, name) in calls() {
-        let (there, due) = (all.iter().filter(|t| t.0 == call).count(), to_be_tried(call));
+    for number in 0..128 {
+        let (there, due) = (all.iter().filter(|t| t.0 == number).count(), to_be_tried(number));
         if there != due {
-            println!("native: {name} passed streams of {there} operations and versions, pairs of versions or places, not of {due}");
+            println!("native: {} passed streams of {there} operations and versions, pairs of versions or places, not of {due}", name(number));
             are_all = false;
         }
     }
@@ -205,8 +205,10 @@ pub fn run(seed: u64, threads: usize) -> bool {
     let rows = [3, 4, 14, 15].into_iter().flat_map(|call| [256, 257].map(|length| row(call, length, length, 0)));
     let all = Mutex::new(BTreeSet::new());
     let tally = by_threads(threads, generate::whole(seed).into_iter().chain(rows), &COLUMNS, |index, q, lent, tally| {
-        let tried = one(index, q, lent, tally);
-        all.lock().expect("no thread fails while it adds one").extend(tried);
+        for q in in_both_modes(q) {
+            let tried = one(index, q, lent, tally);
+            all.lock().expect("no thread fails while it adds one").extend(tried);
+        }
     });
     tally.print();
     let are_all = are_all_tried(&all.into_inner().expect("no thread fails while it adds one"));

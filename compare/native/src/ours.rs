@@ -1,11 +1,13 @@
 //! What the library answers to a request.
 use crate::lent::Lent;
-use lintelow::{raw, Answer, Entry, Refusal, Version};
-use oracle::request::Request;
-use std::fmt;
+use lintelow::{raw, Answer, Entry, Mode, Refusal, Version};
+use oracle::published;
+use oracle::request::{self, Request};
+use std::{fmt, iter};
 
 /// What a call is given. `s` from `at` on is `a`.
 struct Asked<'q> {
+    mode: Mode,
     op: u64,
     version: Version,
     a: &'q [u8],
@@ -18,8 +20,8 @@ type Ask = for<'r> fn(Asked, &'r mut [u8], &'r mut [u8]) -> Result<Answer<'r>, R
 
 /// The calls that are compared, each with room for entries and for bytes lent to it.
 const CALLS: [(u64, &str, Ask); 30] = [
-    (1, "read_op_args", |q, e, p| raw::read_op_args(q.op, q.version, q.a, e, p)),
-    (2, "skip_op_args", |q, _, _| raw::skip_op_args(q.op, q.version, q.a)),
+    (1, "read_op_args", |q, e, p| raw::read_op_args(q.mode, q.op, q.version, q.a, e, p)),
+    (2, "skip_op_args", |q, _, _| raw::skip_op_args(q.mode, q.op, q.version, q.a)),
     (3, "read_daemon_result", |q, e, p| raw::read_daemon_result(q.op, q.version, q.a, e, p)),
     (4, "skip_daemon_result", |q, _, _| raw::skip_daemon_result(q.op, q.version, q.a)),
     (5, "read_stderr_loop", |q, _, _| raw::read_stderr_loop(q.a)),
@@ -57,19 +59,36 @@ fn write_op_args<'r>(q: Asked, _: &'r mut [u8], out: &'r mut [u8]) -> Result<Ans
         None => (0, &[][..]),
     };
     let (entries, payload) = rest.split_at(length.min(rest.len()));
-    raw::write_op_args(q.op, q.version, q.b, q.a, entries, payload, out)
+    raw::write_op_args(q.mode, q.op, q.version, q.b, q.a, entries, payload, out)
 }
 
-/// The number and the name of each call that is compared.
-pub fn calls() -> impl Iterator<Item = (u64, &'static str)> {
-    CALLS.iter().map(|&(call, name, _)| (call, name))
+fn row(call: u64) -> Option<&'static (u64, &'static str, Ask)> {
+    CALLS.iter().find(|&&(number, ..)| number == call)
+}
+
+pub fn is_compared(call: u64) -> bool {
+    row(call).is_some()
+}
+
+/// The name of a call by its number, which has the mode in it.
+pub fn name(number: u64) -> String {
+    let (call, is_published) = request::call(number);
+    let name = row(call).map_or("none", |&(_, name, _)| name);
+    format!("{name}{}", if is_published { ", published" } else { "" })
+}
+
+/// The request, and in published mode too what it comes to there, where the call takes a mode.
+pub fn in_both_modes(q: Request) -> impl Iterator<Item = Request> {
+    let published = published::forms(q.clone()).into_iter().filter(|p| matches!(p.call, 1 | 2));
+    iter::once(q).chain(published)
 }
 
 fn call<'r>(q: &Request, s: &[u8], at: usize, lent: &'r mut Lent) -> Result<Answer<'r>, Refusal> {
-    let (_, _, ask) = CALLS.iter().find(|&&(call, ..)| call == q.call).expect("only calls that are compared are asked");
+    let (_, _, ask) = row(q.call).expect("only calls that are compared are asked");
+    let mode = if q.is_published { Mode::Published } else { Mode::Ported };
     let version = Version::new(q.major as u16, q.minor as u8);
     let (entries, room) = lent.parts();
-    ask(Asked { op: q.operation, version, a: &q.a, b: &q.b, s, at }, entries, room)
+    ask(Asked { mode, op: q.operation, version, a: &q.a, b: &q.b, s, at }, entries, room)
 }
 
 #[derive(PartialEq)]

@@ -1,7 +1,7 @@
 //! The requests of a seed, answered by both.
 use crate::judge::{judge, Verdict};
 use crate::lent::Lent;
-use crate::ours::{ask, ask_cut, Said};
+use crate::ours::{ask, ask_cut, in_both_modes, Said};
 use crate::tally::Tally;
 use oracle::answer::{answer, Answer};
 use oracle::generate;
@@ -46,7 +46,7 @@ pub fn one(index: usize, q: &Request, lent: &mut Lent, tally: &mut Tally) {
     if verdict == Verdict::BadByte && !are_contents_cut(q, &rust, &ours, lent) {
         verdict = Verdict::Different;
     }
-    tally.count(q.call, verdict as usize);
+    tally.count(q, verdict as usize);
     if verdict == Verdict::Different {
         tally.differs(index, q, rust.to_string(), ours.to_string());
     }
@@ -73,7 +73,7 @@ pub fn by_threads(
 /// Is there no difference?
 pub fn run(seed: u64, count: usize, threads: usize) -> bool {
     let began = Instant::now();
-    let requests = generate::requests(seed).take(count);
+    let requests = generate::requests(seed).take(count).flat_map(in_both_modes).chain(generate::published(seed));
     let tally = by_threads(threads, requests, &Verdict::NAMES, |index, q, lent, tally| one(index, &q, lent, tally));
     tally.print();
     tally.conclude(&format!("of seed {seed}"), began)

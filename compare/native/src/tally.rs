@@ -1,6 +1,7 @@
 //! Counts by call and verdict, and the smallest request that differs.
-use crate::ours::calls;
+use crate::ours::name;
 use oracle::request::Request;
+use std::collections::BTreeMap;
 use std::time::Instant;
 
 struct Difference {
@@ -21,7 +22,8 @@ impl Difference {
 pub struct Tally {
     /// The verdicts. The last is that of a difference.
     columns: &'static [&'static str],
-    counts: Vec<Vec<u64>>,
+    /// By the number of call and mode.
+    counts: BTreeMap<u64, Vec<u64>>,
     smallest: Option<Difference>,
 }
 
@@ -39,18 +41,17 @@ fn cut<S: AsRef<str>>(words: impl IntoIterator<Item = S>) -> String {
     line
 }
 
-fn row(call: u64) -> usize {
-    let found = calls().position(|(c, _)| c == call);
-    found.expect("only calls that are compared are counted")
-}
-
 impl Tally {
     pub fn new(columns: &'static [&'static str]) -> Tally {
-        Tally { columns, counts: vec![vec![0; columns.len()]; calls().count()], smallest: None }
+        Tally { columns, counts: BTreeMap::new(), smallest: None }
     }
 
-    pub fn count(&mut self, call: u64, column: usize) {
-        self.counts[row(call)][column] += 1;
+    fn row(&mut self, number: u64) -> &mut Vec<u64> {
+        self.counts.entry(number).or_insert_with(|| vec![0; self.columns.len()])
+    }
+
+    pub fn count(&mut self, q: &Request, column: usize) {
+        self.row(q.number())[column] += 1;
     }
 
     pub fn differs(&mut self, index: usize, q: &Request, rust: String, ours: String) {
@@ -59,7 +60,7 @@ impl Tally {
         self.keep(Difference {
             length: raw.len(),
             index,
-            which: format!("request {index}, call {}, operation {}, version {}.{}", q.call, q.operation, q.major, q.minor),
+            which: format!("request {index}, call {}, operation {}, version {}.{}", q.number(), q.operation, q.major, q.minor),
             hex: cut(raw.iter().map(|b| format!("{b:02x}"))),
             rust: cut([rust]),
             ours: cut([ours]),
@@ -73,14 +74,14 @@ impl Tally {
     }
 
     pub fn add(&mut self, other: Tally) {
-        for (all, more) in self.counts.iter_mut().zip(other.counts) {
-            all.iter_mut().zip(more).for_each(|(x, y)| *x += y);
+        for (number, more) in other.counts {
+            self.row(number).iter_mut().zip(more).for_each(|(x, y)| *x += y);
         }
         other.smallest.into_iter().for_each(|d| self.keep(d));
     }
 
     fn totals(&self) -> Vec<u64> {
-        (0..self.columns.len()).map(|column| self.counts.iter().map(|c| c[column]).sum()).collect()
+        (0..self.columns.len()).map(|column| self.counts.values().map(|c| c[column]).sum()).collect()
     }
 
     fn differences(&self) -> u64 {
@@ -101,8 +102,8 @@ impl Tally {
             let cells: String = counts.iter().map(|n| format!("{n:>11}")).collect();
             println!("{name:<30}{cells}");
         };
-        for ((call, name), counts) in calls().zip(&self.counts).filter(|(_, counts)| counts.iter().any(|&n| n > 0)) {
-            line(&format!("{call:>2} {name}"), counts);
+        for (&number, counts) in &self.counts {
+            line(&format!("{number:>2} {}", name(number)), counts);
         }
         line("all", &self.totals());
         if let Some(d) = &self.smallest {

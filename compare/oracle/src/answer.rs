@@ -1,6 +1,6 @@
 //! One request, one answer.
 use crate::request::Request;
-use crate::{conversation, primitives};
+use crate::{conversation, primitives, published};
 use std::any::Any;
 use std::panic;
 
@@ -8,11 +8,13 @@ pub use crate::line::Answer;
 pub use crate::reader::{over, position, run, Reader};
 
 fn by_call(q: &Request) -> Answer {
-    match q.call {
-        1..=8 => conversation::answer(q),
-        9..=18 => primitives::read(q),
-        20..=24 | 26..=28 => primitives::write(q),
-        30 | 31 | 33 => primitives::test(q),
+    match (q.call, published::alike(q)) {
+        (1, Some(a)) => published::read(q, a).into(),
+        (2, Some(a)) => published::skip(q, a).into(),
+        (1..=8, _) => conversation::answer(q),
+        (9..=18, _) => primitives::read(q),
+        (20..=24 | 26..=28, _) => primitives::write(q),
+        (30 | 31 | 33, _) => primitives::test(q),
         _ => Answer::Out,
     }
 }

@@ -1,13 +1,14 @@
 //! Calls to be written, and what nix-wire's own writers make of them. It has writers of numbers, strings and sets, and none of a whole call.
 use crate::dice::Dice;
 use crate::handshake::ProtocolVersion;
+use crate::line::Line;
 use crate::ops::Op;
 use crate::protocol;
 use crate::reader::{over, run};
 use crate::request::Request;
 use crate::script::{FramedData, OpCall};
 use crate::stream::Stream;
-use crate::{conversation, layouts, wire};
+use crate::{conversation, layouts, published, tables, wire};
 use anyhow::Result;
 
 const READ_OP_ARGS: u64 = 1;
@@ -18,15 +19,22 @@ const WITH_FRAMED_DATA: [u64; 3] = [7, 44, 45];
 const PAYLOADS: [usize; 8] = [0, 1, 9, 32767, 32768, 32769, 65536, 100000];
 
 /// Arguments to be read, of every operation at every version in turn, without end.
-pub fn streams(seed: u64) -> impl Iterator<Item = Request> {
+pub fn streams(seed: u64, is_published: bool) -> impl Iterator<Item = Request> {
     let mut dice = Dice::new(seed);
     let each: Vec<_> = layouts::OPERATIONS.into_iter().flat_map(|op| layouts::versions().into_iter().map(move |v| (op, v))).collect();
-    each.into_iter().cycle().map(move |(op, v)| stream(&mut dice, op, v))
+    each.into_iter().cycle().map(move |(operation, (major, minor))| {
+        let q = Request { call: READ_OP_ARGS, is_published, operation, major, minor, ..Request::default() };
+        Request { a: stream(&mut dice, &q), ..q }
+    })
 }
 
-fn stream(dice: &mut Dice, operation: u64, (major, minor): layouts::Version) -> Request {
+fn stream(dice: &mut Dice, q: &Request) -> Vec<u8> {
+    let (operation, v) = (q.operation, (q.major, q.minor));
     let mut s = Stream::new(dice, true);
-    layouts::arguments(&mut s, operation, (major, minor), true);
+    match published::alike(q) {
+        Some(a) => tables::fill(&mut s, a.call, a.op as u64, v),
+        None => layouts::arguments(&mut s, operation, v, true),
+    }
     if WITH_FRAMED_DATA.contains(&operation) {
         let n = if s.dice.one_in(4) { s.dice.pick(&PAYLOADS) } else { s.dice.below(40) };
         if n > 0 {
@@ -34,14 +42,17 @@ fn stream(dice: &mut Dice, operation: u64, (major, minor): layouts::Version) -> 
         }
         s.put(0);
     }
-    Request { call: READ_OP_ARGS, operation, major, minor, a: s.bytes, ..Request::default() }
+    s.bytes
 }
 
 /// The call that a stream of arguments has, by nix-wire's writers; None where it has none.
 pub fn written(q: &Request) -> Result<Option<Vec<u8>>> {
+    let mut out = Vec::new();
+    if let Some(a) = published::alike(q) {
+        return otherwise(&mut out, published::read(q, a)?).map(|()| Some(out));
+    }
     let op = Op::from_u64(q.operation).expect("an operation");
     let call = run(protocol::read_op_args(op, q.version(), &mut over(&q.a)))?;
-    let mut out = Vec::new();
     Ok(match call {
         Some(call) => write(&mut out, call, q.version()).map(|()| Some(out))?,
         None => None,
@@ -116,7 +127,19 @@ fn set_options(out: &mut Vec<u8>, call: OpCall, v: ProtocolVersion) -> Result<()
         return Ok(());
     }
     numbers(out, &line.counts[..1])?;
-    strings(out, &line.strings.into_iter().map(String::from_utf8).collect::<Result<Vec<_>, _>>()?)
+    texts(out, line.strings)
+}
+
+// What published mode reads otherwise: pairs behind their count, or two strings.
+fn otherwise(out: &mut Vec<u8>, line: Line) -> Result<()> {
+    if line.kind == published::PAIRS {
+        numbers(out, &line.counts[..1])?;
+    }
+    texts(out, line.strings)
+}
+
+fn texts(out: &mut Vec<u8>, texts: Vec<Vec<u8>>) -> Result<()> {
+    strings(out, &texts.into_iter().map(String::from_utf8).collect::<Result<Vec<_>, _>>()?)
 }
 
 fn numbers(out: &mut Vec<u8>, numbers: &[u64]) -> Result<()> {

@@ -20,7 +20,7 @@ pub fn answer(q: &Request) -> Answer {
     }
 }
 
-fn with_operation(q: &Request, op: Op) -> Result<Line> {
+pub fn with_operation(q: &Request, op: Op) -> Result<Line> {
     let r = &mut over(&q.a);
     let line = match q.call {
         1 => arguments(run(protocol::read_op_args(op, q.version(), r))?),

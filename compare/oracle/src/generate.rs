@@ -1,15 +1,32 @@
 //! The tables, then without end requests of all calls, damaged as often as not, with room that is enough, exactly enough or one short.
 use crate::damage::damage;
 use crate::dice::Dice;
-use crate::layouts;
+use crate::layouts::{self, Version};
 use crate::request::Request;
 use crate::stream::{rough, text, Stream};
-use crate::tables;
+use crate::{published, tables};
 
 pub fn requests(seed: u64) -> impl Iterator<Item = Request> {
     let mut dice = Dice::new(seed);
     let first = tables::requests(&mut dice);
     first.into_iter().chain(std::iter::repeat_with(move || any(&mut dice)))
+}
+
+// Of those that published mode reads otherwise, for each call and version.
+const DAMAGED: usize = 10;
+
+/// Requests for what published mode reads otherwise, at every version: whole, each string made bad text, damaged.
+pub fn published(seed: u64) -> impl Iterator<Item = Request> {
+    let dice = &mut Dice::new(seed);
+    let mut all = Vec::new();
+    for (call, operation) in [(1, 47), (2, 47), (3, 41), (4, 41)] {
+        for v in layouts::versions() {
+            all.push(tables::undamaged(Stream::new(dice, true), call, operation, v));
+            all.extend(tables::bad_strings(dice, call, operation, v));
+            all.extend((0..DAMAGED).map(|_| damaged(dice, call, operation, v)));
+        }
+    }
+    all.into_iter().flat_map(published::forms).filter(|p| matches!(p.operation, 30 | 42))
 }
 
 /// Streams to be passed whole.
@@ -47,12 +64,16 @@ fn operation(dice: &mut Dice) -> u64 {
 fn with_stream(dice: &mut Dice, first: u64, last: u64) -> Request {
     let call = first + dice.below((last - first + 1) as usize) as u64;
     let operation = operation(dice);
-    let (major, minor) = dice.pick(&layouts::versions());
+    let v = dice.pick(&layouts::versions());
+    damaged(dice, call, operation, v)
+}
+
+fn damaged(dice: &mut Dice, call: u64, operation: u64, (major, minor): Version) -> Request {
     let mut s = Stream::new(dice, false);
     tables::fill(&mut s, call, operation, (major, minor));
     damage(&mut s);
     let (a, kept, payload) = (s.bytes, s.kept, s.payload);
-    Request { call, operation, major, minor, slots: lent(dice, kept), room: lent(dice, payload), a, b: vec![] }
+    Request { call, operation, major, minor, slots: lent(dice, kept), room: lent(dice, payload), a, ..Request::default() }
 }
 
 fn handshake(dice: &mut Dice) -> Request {

@@ -17,6 +17,7 @@ pub mod generate;
 mod layouts;
 pub mod line;
 mod primitives;
+pub mod published;
 mod reader;
 pub mod request;
 mod stream;

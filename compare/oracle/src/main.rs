@@ -1,14 +1,17 @@
-//! `oracle generate SEED COUNT` writes requests for the probe; `oracle answer` reads requests and writes what nix-wire answers, a line for each.
+//! `oracle generate SEED COUNT` writes requests for the probe, and `oracle published SEED COUNT` the same in published mode; `oracle answer` reads requests and
+//! writes what nix-wire answers, a line for each.
 //! crates/probe/README.md has the form of requests and lines.
 use oracle::request::Request;
-use oracle::{answer, generate};
+use oracle::{answer, generate, published};
 use std::io::{self, BufWriter, Write};
 
-fn generate(seed: u64, count: usize) -> io::Result<()> {
+fn generate(word: &str, seed: u64, count: usize) -> io::Result<()> {
     let mut out = BufWriter::new(io::stdout().lock());
-    for q in generate::requests(seed).take(count) {
-        q.write(&mut out)?;
-    }
+    let mut requests = generate::requests(seed).take(count);
+    match word {
+        "generate" => requests.try_for_each(|q| q.write(&mut out)),
+        _ => requests.flat_map(published::forms).chain(generate::published(seed)).try_for_each(|q| q.write(&mut out)),
+    }?;
     out.flush()
 }
 
@@ -28,8 +31,8 @@ fn main() -> io::Result<()> {
     let words: Vec<&str> = words.iter().map(String::as_str).collect();
     match words[..] {
         ["answer"] => answer(),
-        ["generate", seed, count] => match (seed.parse(), count.parse()) {
-            (Ok(seed), Ok(count)) => generate(seed, count),
+        [word @ ("generate" | "published"), seed, count] => match (seed.parse(), count.parse()) {
+            (Ok(seed), Ok(count)) => generate(word, seed, count),
             _ => usage(),
         },
         _ => usage(),
@@ -37,6 +40,6 @@ fn main() -> io::Result<()> {
 }
 
 fn usage() -> ! {
-    eprintln!("usage: oracle answer | oracle generate SEED COUNT");
+    eprintln!("usage: oracle answer | oracle generate SEED COUNT | oracle published SEED COUNT");
     std::process::exit(2)
 }

@@ -23,10 +23,10 @@ pub fn fill(s: &mut Stream, call: u64, op: u64, v: Version) {
 }
 
 /// Nothing damaged, and room for what a reader keeps.
-fn undamaged(mut s: Stream, call: u64, operation: u64, (major, minor): Version) -> Request {
+pub fn undamaged(mut s: Stream, call: u64, operation: u64, (major, minor): Version) -> Request {
     fill(&mut s, call, operation, (major, minor));
     let (slots, room) = (s.kept as u64, s.payload as u64);
-    Request { call, operation, major, minor, slots, room, a: s.bytes, b: vec![] }
+    Request { call, operation, major, minor, slots, room, a: s.bytes, ..Request::default() }
 }
 
 fn operations(dice: &mut Dice, is_tidy: bool) -> Vec<Request> {
@@ -111,17 +111,21 @@ fn each_bad(q: Request, lengths: &[usize], is_daemon: bool) -> Vec<Request> {
     filled.map(bad).collect()
 }
 
+pub fn bad_strings(dice: &mut Dice, call: u64, operation: u64, (major, minor): Version) -> Vec<Request> {
+    let mut s = Stream::new(dice, true);
+    fill(&mut s, call, operation, (major, minor));
+    let (slots, room, lengths) = (s.kept as u64, s.payload as u64, s.lengths);
+    let q = Request { call, operation, major, minor, slots, room, a: s.bytes, ..Request::default() };
+    each_bad(q, &lengths, false)
+}
+
 fn bad_texts(dice: &mut Dice) -> Vec<Request> {
     let mut all = Vec::new();
     for call in 1..=4 {
         for operation in layouts::OPERATIONS {
             // below and above the gates of AddToStore and of path infos
             for minor in [9, 15, 20, 24, 30, 38] {
-                let mut s = Stream::new(dice, true);
-                fill(&mut s, call, operation, (1, minor));
-                let (slots, room, lengths) = (s.kept as u64, s.payload as u64, s.lengths);
-                let q = Request { call, operation, major: 1, minor, slots, room, a: s.bytes, b: vec![] };
-                all.extend(each_bad(q, &lengths, false));
+                all.extend(bad_strings(dice, call, operation, (1, minor)));
             }
         }
     }

@@ -7,14 +7,16 @@ use mathlib.Core.Bool.{Bool, true, false, _||_}
 use lib.Dec.{eqb}
 use borrow.Author.Tests.{eqb-true, eqb-false}
 use native.Mathlib.Omega.{arith}
+use Rattle.layouts.specs.declared.Mode.{Mode}
+use Rattle.layouts.specs.declared.Mode.the-variants.{Ported, Published}
 use Rattle.layouts.specs.Primitive.{pick, Version, version, atLeast, ok, refused}
 use Rattle.layouts.specs.Shape.{dropped, Role, passed, kept, What, num, str, set, pairs, framed, maybe, typed, Gated, always, from, below, between, once, Tree, stop, strings, units, ifTrue, byType, field, there, what, gated, fields, group, groups, layout}
 use Rattle.layouts.specs.Pieces.{run}
 use Rattle.layouts.specs.Record.{blank}
 use Rattle.layouts.specs.Judge.{Ended, judgeOf}
 use Rattle.layouts.specs.Soft.{keptOf}
-use Rattle.layouts.specs.Operations.{Skip, nothing, empty, first, paths, overrides, lowered, loweredAll, skipped, until, Operation, Row, row, unknown, rowIf, findIn, operations, find}
-use Rattle.layouts.specs.Calls.{argumentsTree, skippedTree, byRow, argumentsKinds, skippedKinds, Answer, answered, readOpArgs, skipOpArgs, skipFramed}
+use Rattle.layouts.specs.Operations.{Skip, nothing, empty, first, paths, overrides, lowered, loweredAll, skipped, until, Operation, Row, row, unknown, rowIf, findIn, operations, published, rowsIn, find}
+use Rattle.layouts.specs.Calls.{Context, context, chosen, argumentsTree, skippedTree, byRow, argumentsKinds, skippedKinds, Answer, answered, readOpArgs, skipOpArgs, skipFramed}
 use Rattle.layouts.specs.Demands.{RefusedBy, framedArguments, Alike}
 use Rattle.layouts.proofs.Calls.{answer-of, refused-of, refused-onward}
 use Rattle.layouts.proofs.Lowers.{not-both, Lowers, asks, passes, keeps, leaves, stops, Ends, Agree, both-refused, both, no-later, lowers-agree, lowers-kept}
@@ -143,112 +145,124 @@ found f g (x ∷ os) c o m e = by (eqb (x .code) c) refl e (found f g os c o (cc
         rw (← y) (z, eqb-true (x .code) c t)
     by false t q h = h q
 
--- computed of all operations: F is last, and the answered field is S
-last-F : map (λ (o : Operation). lastF (o .arguments)) operations ≡ map (λ (o : Operation). true) operations
-unfolding operations
-last-F = refl
+-- computed of all operations in both modes: F is last, and the answered field is S
+last-F : (m : Mode) → map (λ (o : Operation). lastF (o .arguments)) (rowsIn m) ≡ map (λ (o : Operation). true) (rowsIn m)
+unfolding operations published
+last-F Ported = refl
+last-F Published = refl
 
-answered-S : map (λ (o : Operation). answeredField (o .skip) (o .arguments)) operations ≡ map (λ (o : Operation). str kept) operations
-unfolding operations
-answered-S = refl
+answered-S : (m : Mode) → map (λ (o : Operation). answeredField (o .skip) (o .arguments)) (rowsIn m) ≡ map (λ (o : Operation). str kept) (rowsIn m)
+unfolding operations published
+answered-S Ported = refl
+answered-S Published = refl
 
 -- skipping has S N N s of AddToStore alone
 abbrev older : ℕ → List Gated
 older op = pick (eqb op 7) (until 25 (str kept ∷ num dropped ∷ num dropped ∷ str passed ∷ [])) []
 
-older-skips : map (λ (o : Operation). o .skips) operations ≡ map (λ (o : Operation). older (o .code) ++ skipped (o .skip) (o .arguments)) operations
-unfolding operations
-older-skips = refl
+older-skips : (m : Mode)
+    → map (λ (o : Operation). o .skips) (rowsIn m) ≡ map (λ (o : Operation). older (o .code) ++ skipped (o .skip) (o .arguments)) (rowsIn m)
+unfolding operations published
+older-skips Ported = refl
+older-skips Published = refl
 
-framed-arguments : (v : Version)
-    → map (λ (o : Operation). hasF v (o .arguments)) operations
-    ≡ map (λ (o : Operation). pick (eqb (o .code) 7) (atLeast v (version 1 25)) (framedArguments (o .code))) operations
-unfolding operations
-framed-arguments v = refl
+framed-arguments : (m : Mode) (v : Version)
+    → map (λ (o : Operation). hasF v (o .arguments)) (rowsIn m)
+    ≡ map (λ (o : Operation). pick (eqb (o .code) 7) (atLeast v (version 1 25)) (framedArguments (o .code))) (rowsIn m)
+unfolding operations published
+framed-arguments Ported v = refl
+framed-arguments Published v = refl
 
-module _ (op : ℕ) (v : Version) where
+module _ (c : Context) (a : Alike c) where
+  abbrev op : ℕ
+  op = c .op
+
+  abbrev v : Version
+  v = c .spoken
+
   -- S N N s stands below 1.25 only
-  older-none : Alike op v → (is : List Gated) → rest v (older op ++ is) tt ≡ rest v is tt
+  older-none : (is : List Gated) → rest v (older op ++ is) tt ≡ rest v is tt
   unfolding fields gated
-  older-none a is = by (eqb op 7) refl
+  older-none is = by (eqb op 7) refl
     where
       by : (d : Bool) → eqb op 7 ≡ d → rest v (pick d (until 25 (str kept ∷ num dropped ∷ num dropped ∷ str passed ∷ [])) [] ++ is) tt ≡ rest v is tt
       by true e = rw (a (eqb-true op 7 e))
       by false e = refl
 
-  framed-alike : Alike op v → pick (eqb op 7) (atLeast v (version 1 25)) (framedArguments op) ≡ framedArguments op
-  framed-alike a = by (eqb op 7) refl
+  framed-alike : pick (eqb op 7) (atLeast v (version 1 25)) (framedArguments op) ≡ framedArguments op
+  framed-alike = by (eqb op 7) refl
     where
       by : (d : Bool) → eqb op 7 ≡ d → pick d (atLeast v (version 1 25)) (d || eqb op 44 || eqb op 45) ≡ d || eqb op 44 || eqb op 45
       by true e = a (eqb-true op 7 e)
       by false e = refl
 
-  row-lowers : Alike op v → (o : Operation) → find op ≡ row o
-      → Lowers (framedArguments op) 1 (layout v (once (o .arguments) ∷ [])) (layout v (once (o .skips) ∷ []))
+  row-lowers : (o : Operation) → chosen c ≡ row o → Lowers (framedArguments op) 1 (layout v (once (o .arguments) ∷ [])) (layout v (once (o .skips) ∷ []))
   unfolding find layout groups group
-  row-lowers a o e =
-      let l = found _ _ operations op o last-F e in
-      let s = found _ _ operations op o answered-S e in
-      let h = found _ _ operations op o (framed-arguments v) e in
-      let k = found _ _ operations op o older-skips e in
-      let g : hasF v (o .arguments) ≡ framedArguments op = h .0 ∙ ap (λ c. pick (eqb c 7) (atLeast v (version 1 25)) (framedArguments c)) (h .1) ∙ framed-alike a in
-      rw (k .0, k .1, older-none a (skipped (o .skip) (o .arguments)), ← g) (skipped-lower v (o .skip) (o .arguments) (s .0) (l .0))
+  row-lowers o e =
+      let m = c .mode in
+      let l = found _ _ (rowsIn m) op o (last-F m) e in
+      let s = found _ _ (rowsIn m) op o (answered-S m) e in
+      let h = found _ _ (rowsIn m) op o (framed-arguments m v) e in
+      let k = found _ _ (rowsIn m) op o (older-skips m) e in
+      let g : hasF v (o .arguments) ≡ framedArguments op = h .0 ∙ ap (λ c. pick (eqb c 7) (atLeast v (version 1 25)) (framedArguments c)) (h .1) ∙ framed-alike in
+      rw (k .0, k .1, older-none (skipped (o .skip) (o .arguments)), ← g) (skipped-lower v (o .skip) (o .arguments) (s .0) (l .0))
 
 -- below 1.25 the kept string of S N N s is the only one
-old-lowers : (v : Version) → atLeast v (version 1 25) ≡ false → Lowers false 1 (skippedTree 7 v) (skippedTree 7 v)
-unfolding skippedTree find operations layout groups group fields gated field
-old-lowers v e = rw e (keeps (asks (λ n. asks (λ m. passes stops))))
+old-lowers : (m : Mode) (v : Version) → atLeast v (version 1 25) ≡ false → Lowers false 1 (skippedTree (context m 7 v)) (skippedTree (context m 7 v))
+unfolding skippedTree find operations published layout groups group fields gated field
+old-lowers Ported v e = rw e (keeps (asks (λ n. asks (λ m. passes stops))))
+old-lowers Published v e = rw e (keeps (asks (λ n. asks (λ m. passes stops))))
 
 -- ---- the calls
 -- skipped arguments keep at most one string: the one slot of `skipOpArgs` is room enough
-pub skipped-keeps : (op : ℕ) (v : Version) (s : List ℕ) → keptOf (run (skippedTree op v) s 0) ≤ 1
+pub skipped-keeps : (c : Context) (s : List ℕ) → keptOf (run (skippedTree c) s 0) ≤ 1
 unfolding skippedTree run keptOf
-skipped-keeps op v s = by (eqb op 7) (atLeast v (version 1 25)) refl refl
+skipped-keeps c s = by (eqb (c .op) 7) (atLeast (c .spoken) (version 1 25)) refl refl
   where
-    alike : Alike op v → (f : Row) → find op ≡ f → keptOf (run (byRow f (λ o. layout v (once (o .skips) ∷ []))) s 0) ≤ 1
-    alike a (row o) e = lowers-kept (row-lowers op v a o e) s 0
+    alike : Alike c → (f : Row) → chosen c ≡ f → keptOf (run (byRow f (λ o. layout (c .spoken) (once (o .skips) ∷ []))) s 0) ≤ 1
+    alike a (row o) e = lowers-kept (row-lowers c a o e) s 0
     alike a unknown e = omega arith
 
-    by : (c d : Bool) → eqb op 7 ≡ c → atLeast v (version 1 25) ≡ d → keptOf (run (skippedTree op v) s 0) ≤ 1
-    by false d e f = alike (λ q. absurd (eqb-false op 7 e q)) (find op) refl
-    by true true e f = alike (λ q. f) (find op) refl
-    by true false e f = rw (eqb-true op 7 e) (lowers-kept (old-lowers v f) s 0)
+    by : (b d : Bool) → eqb (c .op) 7 ≡ b → atLeast (c .spoken) (version 1 25) ≡ d → keptOf (run (skippedTree c) s 0) ≤ 1
+    by false d e f = alike (λ q. absurd (eqb-false (c .op) 7 e q)) (chosen c) refl
+    by true true e f = alike (λ q. f) (chosen c) refl
+    by true false e f = rw (eqb-true (c .op) 7 e) (lowers-kept (old-lowers (c .mode) (c .spoken) f) s 0)
 
-module _ (op : ℕ) (v : Version) (s : List ℕ) (slots room : ℕ) where
-  arguments-agree : Alike op v
-      → Agree (framedArguments op) s 0 (judgeOf s slots room blank (run (argumentsTree op v) s 0)) (judgeOf s 1 0 blank (run (skippedTree op v) s 0))
+module _ (c : Context) (s : List ℕ) (slots room : ℕ) where
+  arguments-agree : Alike c
+      → Agree (framedArguments (c .op)) s 0 (judgeOf s slots room blank (run (argumentsTree c) s 0)) (judgeOf s 1 0 blank (run (skippedTree c) s 0))
   unfolding argumentsTree skippedTree run judgeOf
-  arguments-agree a = by (find op) refl
+  arguments-agree a = by (chosen c) refl
     where
-      by : (f : Row) → find op ≡ f
-          → Agree (framedArguments op) s 0 (judgeOf s slots room blank (run (byRow f (λ o. layout v (once (o .arguments) ∷ []))) s 0))
-          (judgeOf s 1 0 blank (run (byRow f (λ o. layout v (once (o .skips) ∷ []))) s 0))
-      by (row o) e = lowers-agree s slots room (row-lowers op v a o e) 0 (omega arith) blank blank (omega arith)
+      by : (f : Row) → chosen c ≡ f
+          → Agree (framedArguments (c .op)) s 0 (judgeOf s slots room blank (run (byRow f (λ o. layout (c .spoken) (once (o .arguments) ∷ []))) s 0))
+          (judgeOf s 1 0 blank (run (byRow f (λ o. layout (c .spoken) (once (o .skips) ∷ []))) s 0))
+      by (row o) e = lowers-agree s slots room (row-lowers c a o e) 0 (omega arith) blank blank (omega arith)
       by unknown e = both-refused 0 0 (omega arith) (omega arith)
 
-  read-ends : (b : Bool) → framedArguments op ≡ b → Alike op v → (x : Answer) → readOpArgs op v s slots room ≡ ok x
-      → (y : Answer) × (skipOpArgs op v s ≡ ok y) × Ends b s (y .ends) (x .ends)
+  read-ends : (b : Bool) → framedArguments (c .op) ≡ b → Alike c → (x : Answer) → readOpArgs c s slots room ≡ ok x
+      → (y : Answer) × (skipOpArgs c s ≡ ok y) × Ends b s (y .ends) (x .ends)
   unfolding readOpArgs skipOpArgs
   read-ends b f a x e =
-      let y = answer-of v (argumentsKinds op) (judgeOf s slots room blank (run (argumentsTree op v) s 0)) x e in
+      let y = answer-of (c .spoken) (argumentsKinds c) (judgeOf s slots room blank (run (argumentsTree c) s 0)) x e in
       let z = both (y .0) (arguments-agree a) (y .1) in
       let w : y .0 .ends ≡ x .ends = cc in
-      let g = subst (λ n. Ends (framedArguments op) s (z .0 .ends) n) w (z .2) in
-      (_, ap (answered v (skippedKinds op)) (z .1), subst (λ c. Ends c s (z .0 .ends) (x .ends)) f g)
+      let g = subst (λ n. Ends (framedArguments (c .op)) s (z .0 .ends) n) w (z .2) in
+      (_, ap (answered (c .spoken) (skippedKinds c)) (z .1), subst (λ d. Ends d s (z .0 .ends) (x .ends)) f g)
 
   -- where reading succeeds and the arguments have no F, skipping ends at the same byte
-  pub read-skips-arguments : framedArguments op ≡ false → (x : Answer) → readOpArgs op v s slots room ≡ ok x
-      → (y : Answer) × (skipOpArgs op v s ≡ ok y) × (y .ends ≡ x .ends)
+  pub read-skips-arguments : framedArguments (c .op) ≡ false → (x : Answer) → readOpArgs c s slots room ≡ ok x
+      → (y : Answer) × (skipOpArgs c s ≡ ok y) × (y .ends ≡ x .ends)
   read-skips-arguments f x e = read-ends false f (λ q. let z : framedArguments 7 ≡ false = rw q at f in absurd (not-both refl z)) x e
 
   -- where it succeeds and they have one, skipping ends before F, and skipping F from there on ends where reading does
-  pub read-skips-framed : framedArguments op ≡ true → Alike op v → (x : Answer) → readOpArgs op v s slots room ≡ ok x
-      → (y : Answer) × (skipOpArgs op v s ≡ ok y) × (y .ends ≤ x .ends) × (z : Ended) × (skipFramed s (y .ends) ≡ ok z) × (z .ends ≡ x .ends)
+  pub read-skips-framed : framedArguments (c .op) ≡ true → Alike c → (x : Answer) → readOpArgs c s slots room ≡ ok x
+      → (y : Answer) × (skipOpArgs c s ≡ ok y) × (y .ends ≤ x .ends) × (z : Ended) × (skipFramed s (y .ends) ≡ ok z) × (z .ends ≡ x .ends)
   read-skips-framed f a x e = let y = read-ends true f a x e in (y .0, y .1, y .2 .0, y .2 .1, y .2 .2, y .2 .3)
 
   -- where skipping refuses, reading refuses too, at that place or an earlier one
-  pub skip-refuses-arguments : Alike op v → (which place stream : ℕ) → skipOpArgs op v s ≡ refused which place stream → RefusedBy place (readOpArgs op v s slots room)
+  pub skip-refuses-arguments : Alike c → (which place stream : ℕ) → skipOpArgs c s ≡ refused which place stream → RefusedBy place (readOpArgs c s slots room)
   unfolding readOpArgs skipOpArgs
   skip-refuses-arguments a which place stream q =
-      refused-onward place (judgeOf s slots room blank (run (argumentsTree op v) s 0)) _
-      (no-later (arguments-agree a) (refused-of v (skippedKinds op) (judgeOf s 1 0 blank (run (skippedTree op v) s 0)) which place stream q))
+      refused-onward place (judgeOf s slots room blank (run (argumentsTree c) s 0)) _
+      (no-later (arguments-agree a) (refused-of (c .spoken) (skippedKinds c) (judgeOf s 1 0 blank (run (skippedTree c) s 0)) which place stream q))

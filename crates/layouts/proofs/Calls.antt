@@ -5,6 +5,7 @@ use mathlib.Core.List.{List}
 use mathlib.Core.Bool.{Bool, true, false}
 use lib.ListN.{drop}
 use native.Mathlib.Omega.{arith}
+use Rattle.layouts.specs.declared.Mode.the-variants.{Ported}
 use Rattle.layouts.specs.Primitive.{pick, badText, Version, Result, ok, refused, onward}
 use Rattle.layouts.specs.Shape.{Tree, layout}
 use Rattle.layouts.specs.Pieces.{Pieces, number, text, half, chunk, end, fault, run, skipOf, totalOf}
@@ -12,7 +13,7 @@ use Rattle.layouts.specs.Record.{blank, recordOf}
 use Rattle.layouts.specs.Judge.{notText, textEnd, Ended, judgeOf}
 use Rattle.layouts.specs.Soft.{Softened, keptOf, unlessBad}
 use Rattle.layouts.specs.Operations.{Kinds, Row, row, unknown, find}
-use Rattle.layouts.specs.Calls.{argumentsTree, skippedTree, replyTree, byRow, argumentsKinds, replyKinds, Answer, answered, readOf, readOpArgs, readDaemonResult, skipDaemonResult, skipOpArgs}
+use Rattle.layouts.specs.Calls.{Context, argumentsTree, skippedTree, replyTree, byRow, argumentsKinds, replyKinds, Answer, answered, readOf, readOpArgs, readDaemonResult, skipDaemonResult, skipOpArgs}
 use Rattle.layouts.specs.Demands.{RefusedBy, meaningOf}
 use Rattle.layouts.proofs.Placed.{never-both}
 use Rattle.layouts.proofs.Judge.{judge-read}
@@ -57,9 +58,6 @@ module _ (op : ℕ) (v : Version) (s s' : List ℕ) where
   abbrev reply : Pieces
   reply = run (replyTree op v) s 0
 
-  abbrev arguments : Pieces
-  arguments = run (argumentsTree op v) s 0
-
   -- ---- a reply
   module _ (a : Softened (run (replyTree op v) s 0) s s') where
     -- skipping ends at the same byte
@@ -78,21 +76,25 @@ module _ (op : ℕ) (v : Version) (s s' : List ℕ) where
     unfolding skipDaemonResult
     soft-rest-reply e q = soft-rest (replyTree op v) s s' e a q
 
-  -- ---- arguments
-  module _ (a : Softened (run (argumentsTree op v) s 0) s s') where
+-- ---- arguments
+module _ (c : Context) (s s' : List ℕ) where
+  abbrev arguments : Pieces
+  arguments = run (argumentsTree c) s 0
+
+  module _ (a : Softened (run (argumentsTree c) s 0) s s') where
     pub soft-read-arguments : (slots room e : ℕ) → skipOf arguments ≡ ok e → keptOf arguments ≤ slots → totalOf arguments ≤ room
-        → readOpArgs op v s' slots room ≡ unlessBad s' arguments (meaningOf v (argumentsKinds op) arguments e)
+        → readOpArgs c s' slots room ≡ unlessBad s' arguments (meaningOf (c .spoken) (argumentsKinds c) arguments e)
     unfolding readOpArgs
-    soft-read-arguments slots room e q h g = soft-read-of (argumentsTree op v) v _ s s' a slots room e q h g
+    soft-read-arguments slots room e q h g = soft-read-of (argumentsTree c) (c .spoken) _ s s' a slots room e q h g
 
     pub soft-rest-arguments : (e : ℕ) → skipOf arguments ≡ ok e → drop e s' ≡ drop e s
-    soft-rest-arguments e q = soft-rest (argumentsTree op v) s s' e a q
+    soft-rest-arguments e q = soft-rest (argumentsTree c) s s' e a q
 
   -- ---- skipped arguments that answer
-  pub soft-skip-arguments : Softened (run (skippedTree op v) s 0) s s' → (x : Answer) → skipOpArgs op v s ≡ ok x
-      → skipOpArgs op v s' ≡ unlessBad s' (run (skippedTree op v) s 0) (ok x)
+  pub soft-skip-arguments : Softened (run (skippedTree c) s 0) s s' → (x : Answer) → skipOpArgs c s ≡ ok x
+      → skipOpArgs c s' ≡ unlessBad s' (run (skippedTree c) s 0) (ok x)
   unfolding skipOpArgs
-  soft-skip-arguments a x e = soft-answer-of (skippedTree op v) v _ s s' a 1 0 x e
+  soft-skip-arguments a x e = soft-answer-of (skippedTree c) (c .spoken) _ s s' a 1 0 x e
 
 -- ---- reading agrees with skipping
 pub refused-onward : {A B : Type 0} (place : ℕ) (o : Result A) (k : A → Result B) → RefusedBy place o → RefusedBy place (onward o k)
@@ -117,4 +119,4 @@ module _ (op : ℕ) (v : Version) (s : List ℕ) (slots room : ℕ) where
   -- where skipping refuses, reading refuses too, at that place or an earlier one
   pub skip-refuses : (which place : ℕ) → skipDaemonResult op v s ≡ refused which place 0 → RefusedBy place (readDaemonResult op v s slots room)
   unfolding readDaemonResult skipDaemonResult replyTree
-  skip-refuses which place q = row-refused (find op) _ which place q
+  skip-refuses which place q = row-refused (find Ported op) _ which place q

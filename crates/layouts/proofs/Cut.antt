@@ -20,7 +20,7 @@ use Rattle.layouts.specs.Pieces.{Pieces, fault, afterNum, afterText, aft
 use Rattle.layouts.specs.Record.{blank, noted, withNumber, entered, withPayload}
 use Rattle.layouts.specs.Judge.{notText, textEnd, textTaken, halfTaken, chunkTaken, Ended, judgeOf, payloadOf, lentAfter}
 use Rattle.layouts.specs.Operations.{Kinds}
-use Rattle.layouts.specs.Calls.{Answer, answered, argumentsKinds, skippedKinds, replyKinds, argumentsTree, skippedTree, replyTree, readOf, readOpArgs, readDaemonResult, skipDaemonResult, skipOpArgs, field, readField, readNumber, readU32, skipString, readString, readStringSet, skipStringSet, readFramed, skipFramed}
+use Rattle.layouts.specs.Calls.{Context, Answer, answered, argumentsKinds, skippedKinds, replyKinds, argumentsTree, skippedTree, replyTree, readOf, readOpArgs, readDaemonResult, skipDaemonResult, skipOpArgs, field, readField, readNumber, readU32, skipString, readString, readStringSet, skipStringSet, readFramed, skipFramed}
 use Rattle.layouts.specs.Cut.{CutBefore, SameTo, CutOrLonger, RefusedAsCut, WholeOnly}
 use Rattle.layouts.proofs.Little.{little-same, number-same}
 use Rattle.layouts.proofs.Views.{num-short, text-short, chunk-short}
@@ -279,13 +279,14 @@ module _ (op : ℕ) (v : Version) where
   unfolding skipDaemonResult
   skip-reply-whole = skip-whole at-zero
 
-  pub read-arguments-whole : (slots room : ℕ) → WholeOnly (λ s. readOpArgs op v s slots room) (λ x. x .ends) 0 (seen (argumentsTree op v) 0)
+module _ (c : Context) where
+  pub read-arguments-whole : (slots room : ℕ) → WholeOnly (λ s. readOpArgs c s slots room) (λ x. x .ends) 0 (seen (argumentsTree c) 0)
   unfolding readOpArgs
-  read-arguments-whole slots room = call-whole (argumentsTree op v) v (argumentsKinds op) slots room
+  read-arguments-whole slots room = call-whole (argumentsTree c) (c .spoken) (argumentsKinds c) slots room
 
-  pub skip-arguments-whole : WholeOnly (λ s. skipOpArgs op v s) (λ x. x .ends) 0 (seen (skippedTree op v) 0)
+  pub skip-arguments-whole : WholeOnly (λ s. skipOpArgs c s) (λ x. x .ends) 0 (seen (skippedTree c) 0)
   unfolding skipOpArgs
-  skip-arguments-whole = call-whole (skippedTree op v) v (skippedKinds op) 1 0
+  skip-arguments-whole = call-whole (skippedTree c) (c .spoken) (skippedKinds c) 1 0
 
 -- ---- one field, from a place on. A place behind the stream is cut short too
 module _ (at : ℕ) where

@@ -14,7 +14,7 @@ use Rattle.layouts.specs.Record.{blank}
 use Rattle.layouts.specs.Judge.{Ended, judgeOf}
 use Rattle.layouts.specs.Refusals.{Answers, Refuses, lowerCase, Parts}
 use Rattle.layouts.specs.Operations.{Kinds}
-use Rattle.layouts.specs.Calls.{argumentsTree, skippedTree, replyTree, argumentsKinds, skippedKinds, replyKinds, answered, readOpArgs, readDaemonResult, skipDaemonResult, skipOpArgs}
+use Rattle.layouts.specs.Calls.{Context, argumentsTree, skippedTree, replyTree, argumentsKinds, skippedKinds, replyKinds, answered, readOpArgs, readDaemonResult, skipDaemonResult, skipOpArgs}
 use Rattle.layouts.specs.Handshake.{hear, judgeHeard, handshake, daemonHandshake, parseHandshake, parseDaemonHandshake}
 use Rattle.layouts.specs.Demands.{Bytes}
 use Rattle.layouts.proofs.Placed.{never-both}
@@ -68,14 +68,32 @@ through f g = (λ a. g .0 (f .0 a), λ c. f .1 (g .1 c))
 answered-refused : (v : Version) (k : Kinds) (o : Result Ended) (which place : ℕ) → (answered v k o ≡ refused which place 0) ↔ (o ≡ refused which place 0)
 answered-refused v k o which place = (λ e. refused-of v k o which place 0 e, λ e. ap (answered v k) e)
 
-module _ (op : ℕ) (v : Version) (s : List ℕ) (bytes : Bytes s) where
+module _ (c : Context) (s : List ℕ) (bytes : Bytes s) where
   -- 01's table, "given exactly when", for the call that reads arguments
   pub arguments-refused-when : (slots room which place : ℕ)
-      → (readOpArgs op v s slots room ≡ refused which place 0) ↔ Refuses slots room (argumentsTree op v) 0 blank s which place
+      → (readOpArgs c s slots room ≡ refused which place 0) ↔ Refuses slots room (argumentsTree c) 0 blank s which place
   unfolding readOpArgs
   arguments-refused-when slots room which place =
-      through (answered-refused v (argumentsKinds op) _ which place) (refused-when s bytes slots room (argumentsTree op v) 0 blank which place)
+      through (answered-refused (c .spoken) (argumentsKinds c) _ which place) (refused-when s bytes slots room (argumentsTree c) 0 blank which place)
 
+  -- for the call that skips arguments: it keeps one string and has no room for chunks
+  pub skipped-refused-when : (which place : ℕ) → (skipOpArgs c s ≡ refused which place 0) ↔ Refuses 1 0 (skippedTree c) 0 blank s which place
+  unfolding skipOpArgs
+  skipped-refused-when which place =
+      through (answered-refused (c .spoken) (skippedKinds c) _ which place) (refused-when s bytes 1 0 (skippedTree c) 0 blank which place)
+
+  -- the refusals of these calls name no stream but 0
+  pub arguments-stream : (slots room which place stream : ℕ) → readOpArgs c s slots room ≡ refused which place stream → stream ≡ 0
+  unfolding readOpArgs
+  arguments-stream slots room which place stream e =
+      refused-stream s bytes slots room (argumentsTree c) 0 blank which place stream (refused-of (c .spoken) (argumentsKinds c) _ which place stream e)
+
+  pub skipped-stream : (which place stream : ℕ) → skipOpArgs c s ≡ refused which place stream → stream ≡ 0
+  unfolding skipOpArgs
+  skipped-stream which place stream e =
+      refused-stream s bytes 1 0 (skippedTree c) 0 blank which place stream (refused-of (c .spoken) (skippedKinds c) _ which place stream e)
+
+module _ (op : ℕ) (v : Version) (s : List ℕ) (bytes : Bytes s) where
   -- for the call that reads a reply
   pub reply-refused-when : (slots room which place : ℕ)
       → (readDaemonResult op v s slots room ≡ refused which place 0) ↔ Refuses slots room (replyTree op v) 0 blank s which place
@@ -83,27 +101,10 @@ module _ (op : ℕ) (v : Version) (s : List ℕ) (bytes : Bytes s) where
   reply-refused-when slots room which place =
       through (answered-refused v (replyKinds op) _ which place) (refused-when s bytes slots room (replyTree op v) 0 blank which place)
 
-  -- for the call that skips arguments: it keeps one string and has no room for chunks
-  pub skipped-refused-when : (which place : ℕ) → (skipOpArgs op v s ≡ refused which place 0) ↔ Refuses 1 0 (skippedTree op v) 0 blank s which place
-  unfolding skipOpArgs
-  skipped-refused-when which place =
-      through (answered-refused v (skippedKinds op) _ which place) (refused-when s bytes 1 0 (skippedTree op v) 0 blank which place)
-
-  -- the refusals of these calls name no stream but 0
-  pub arguments-stream : (slots room which place stream : ℕ) → readOpArgs op v s slots room ≡ refused which place stream → stream ≡ 0
-  unfolding readOpArgs
-  arguments-stream slots room which place stream e =
-      refused-stream s bytes slots room (argumentsTree op v) 0 blank which place stream (refused-of v (argumentsKinds op) _ which place stream e)
-
   pub reply-stream : (slots room which place stream : ℕ) → readDaemonResult op v s slots room ≡ refused which place stream → stream ≡ 0
   unfolding readDaemonResult
   reply-stream slots room which place stream e =
       refused-stream s bytes slots room (replyTree op v) 0 blank which place stream (refused-of v (replyKinds op) _ which place stream e)
-
-  pub skipped-stream : (which place stream : ℕ) → skipOpArgs op v s ≡ refused which place stream → stream ≡ 0
-  unfolding skipOpArgs
-  skipped-stream which place stream e =
-      refused-stream s bytes 1 0 (skippedTree op v) 0 blank which place stream (refused-of v (skippedKinds op) _ which place stream e)
 
 -- ---- skipping a reply
 refused-alike : {o : Result ℕ} {o' : Result Ended} → SameWay o o' → (which place : ℕ) → (o ≡ refused which place 0) ↔ (o' ≡ refused which place 0)

@@ -8,15 +8,16 @@ use lib.Dec.{leb, ltb, eqb}
 use native.Mathlib.Omega.{arith}
 use Rattle.text.specs.Prefix.{isText}
 use Rattle.text.specs.Rfc3629.{Text}
+use Rattle.layouts.specs.declared.Mode.the-variants.{Ported}
 use Rattle.layouts.specs.declared.Record.{Record}
 use Rattle.layouts.specs.Primitive.{pick, numberAt, padOf, cutShort, badText, noEntryRoom, noPayloadRoom, outputFull, noSuchEntry, badEntry, noArguments, notOfShape, Version, version, Result, ok, refused, onward}
-use Rattle.layouts.specs.Shape.{Target, What, Role, str, framed, always, once, Tree, ask, say, frames, fail, stop, layout}
+use Rattle.layouts.specs.Shape.{Target, What, Role, str, framed, Gated, always, once, Tree, ask, say, frames, fail, stop, layout}
 use Rattle.layouts.specs.Pieces as P
 use Rattle.layouts.specs.Pieces.{Pieces, number, text, half, chunk, end, fault, run, afterNum, afterText, afterChunk, chunks, skipOf}
 use Rattle.layouts.specs.Record.{blank, noted, isKept, entered, withPayload}
 use Rattle.layouts.specs.Judge.{notText, textEnd, textTaken, halfTaken, chunkTaken, judgeOf}
 use Rattle.layouts.specs.Operations.{Kinds, kindOf, Operation, Row, row, unknown, find}
-use Rattle.layouts.specs.Calls.{byRow, argumentsTree, skippedTree, replyTree, argumentsKinds, skippedKinds, replyKinds, answered, readOf, readOpArgs, readDaemonResult, skipDaemonResult, skipOpArgs, field, readField, readU32, skipFramed}
+use Rattle.layouts.specs.Calls.{Context, chosen, byRow, argumentsTree, skippedTree, replyTree, argumentsKinds, skippedKinds, replyKinds, answered, readOf, readOpArgs, readDaemonResult, skipDaemonResult, skipOpArgs, field, readField, readU32, skipFramed}
 use Rattle.layouts.specs.Writers.{slotsOf, entryStart, entryLength, viewOf, stringBytes, setBytes, writing, writeString, textAt, textsFrom, textsOf, writeStringSet}
 use Rattle.layouts.specs.CallWriter.{fieldsThere, fieldsBy, callFields, valueFor, targetIn, isOfShape, stringsIn, entriesFor, fieldsBytes, stringsOf, shapeBytes, callBytes, writeOpArgs}
 use Rattle.layouts.proofs.Placed.{never-both, NoFail}
@@ -89,14 +90,15 @@ module _ (bytes es : List ℕ) where
       (onward-numbered (stringsOf ns bytes es ws) (λ cs. ok (fieldsBytes ns p cs ws))
       (onward-numbered (entriesFor ns (slotsOf es) 0 ws) (λ n. textsFrom bytes es n 0) (entries-numbered ns (slotsOf es) 0 ws) (λ n. texts-numbered n 0)) (λ cs. tt)) (omega arith)
 
-  pub call-numbered : (op : ℕ) (v : Version) (ns p lent : List ℕ) → Numbered (writeOpArgs op v ns bytes es p lent)
+  pub call-numbered : (c : Context) (ns p lent : List ℕ) → Numbered (writeOpArgs c ns bytes es p lent)
   unfolding writeOpArgs callBytes callFields
-  call-numbered op v ns p lent =
-      onward-numbered (callBytes op v ns bytes es p) (λ out. writing out lent)
-      (onward-numbered (callFields op v) (λ ws. shapeBytes ns bytes es p ws) (by (find op)) (shape-numbered ns p)) (λ out. writing-numbered out lent)
+  call-numbered c ns p lent =
+      onward-numbered (callBytes c ns bytes es p) (λ out. writing out lent)
+      (onward-numbered (callFields c) (λ ws. shapeBytes ns bytes es p ws) (by (chosen c)) (shape-numbered ns p)) (λ out. writing-numbered out lent)
     where
-      by : (f : Row) → Numbered (fieldsBy f op v)
-      by (row o) = pick-numbered (eqb (kindOf v false (argumentsKinds op)) 0) (refused noArguments 0 0) (ok (fieldsThere v (o .arguments))) (omega arith) tt
+      by : (f : Row) → Numbered (fieldsBy f c)
+      by (row o) =
+          pick-numbered (eqb (kindOf (c .spoken) false (argumentsKinds c)) 0) (refused noArguments 0 0) (ok (fieldsThere (c .spoken) (o .arguments))) (omega arith) tt
       by unknown = omega arith
 
 -- the readers
@@ -165,22 +167,23 @@ module _ (s : List ℕ) where
   module _ (op : ℕ) (v : Version) where
     pub skip-reply-numbered : Numbered (skipDaemonResult op v s)
     unfolding skipDaemonResult replyTree
-    skip-reply-numbered = row-numbered (find op) (λ o. layout v (o .reply)) (λ o. layout-never-fails v (o .reply))
+    skip-reply-numbered = row-numbered (find Ported op) (λ o. layout v (o .reply)) (λ o. layout-never-fails v (o .reply))
 
     pub read-reply-numbered : (slots room : ℕ) → Numbered (readDaemonResult op v s slots room)
     unfolding readDaemonResult skipDaemonResult
     read-reply-numbered slots room = read-of v (replyKinds op) slots room (replyTree op v) skip-reply-numbered
 
-    pub read-arguments-numbered : (slots room : ℕ) → Numbered (readOpArgs op v s slots room)
-    unfolding readOpArgs argumentsTree
-    read-arguments-numbered slots room =
-        read-of v (argumentsKinds op) slots room (argumentsTree op v)
-        (row-numbered (find op) (λ o. layout v (once (o .arguments) ∷ [])) (λ o. layout-never-fails v (once (o .arguments) ∷ [])))
+  module _ (c : Context) where
+    of-fields : (fields : Operation → List Gated) → Numbered (skipOf (run (byRow (chosen c) (λ o. layout (c .spoken) (once (fields o) ∷ []))) s 0))
+    of-fields fields = row-numbered (chosen c) (λ o. layout (c .spoken) (once (fields o) ∷ [])) (λ o. layout-never-fails (c .spoken) (once (fields o) ∷ []))
 
-    pub skip-arguments-numbered : Numbered (skipOpArgs op v s)
+    pub read-arguments-numbered : (slots room : ℕ) → Numbered (readOpArgs c s slots room)
+    unfolding readOpArgs argumentsTree
+    read-arguments-numbered slots room = read-of (c .spoken) (argumentsKinds c) slots room (argumentsTree c) (of-fields (λ o. o .arguments))
+
+    pub skip-arguments-numbered : Numbered (skipOpArgs c s)
     unfolding skipOpArgs skippedTree
-    skip-arguments-numbered =
-        read-of v (skippedKinds op) 1 0 (skippedTree op v) (row-numbered (find op) (λ o. layout v (once (o .skips) ∷ [])) (λ o. layout-never-fails v (once (o .skips) ∷ [])))
+    skip-arguments-numbered = read-of (c .spoken) (skippedKinds c) 1 0 (skippedTree c) (of-fields (λ o. o .skips))
 
   -- of one field
   module _ (at : ℕ) where

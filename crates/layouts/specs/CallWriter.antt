@@ -7,8 +7,8 @@ use lib.ListN as ListN
 use lib.Dec.{leb, eqb}
 use Rattle.layouts.specs.Primitive.{pick, numberBytes, Version, unknownOperation, noSuchEntry, noArguments, notOfShape, Result, ok, refused, onward}
 use Rattle.layouts.specs.Shape.{Target, dropped, asNumber, asFlag, asCount, asPresence, What, num, str, set, pairs, framed, maybe, typed, Gated, there, what}
-use Rattle.layouts.specs.Operations.{kindOf, Operation, Row, row, unknown, find}
-use Rattle.layouts.specs.Calls.{argumentsKinds}
+use Rattle.layouts.specs.Operations.{kindOf, Operation, Row, row, unknown}
+use Rattle.layouts.specs.Calls.{Context, chosen, argumentsKinds}
 use Rattle.layouts.specs.Writers.{slotsOf, stringsBytes, framedBytes, textsFrom, writing}
 
 -- ---- fields: 9; 13 where a call has no kind
@@ -16,12 +16,12 @@ unfoldable pub fieldsThere : Version → List Gated → List What
 fieldsThere v [] = []
 fieldsThere v (x ∷ xs) = pick (there v x) (what x ∷ fieldsThere v xs) (fieldsThere v xs)
 
-abbrev pub fieldsBy : Row → (op : ℕ) → Version → Result (List What)
-fieldsBy (row o) op v = pick (eqb (kindOf v false (argumentsKinds op)) 0) (refused noArguments 0 0) (ok (fieldsThere v (o .arguments)))
-fieldsBy unknown op v = refused unknownOperation 0 0
+abbrev pub fieldsBy : Row → Context → Result (List What)
+fieldsBy (row o) c = pick (eqb (kindOf (c .spoken) false (argumentsKinds c)) 0) (refused noArguments 0 0) (ok (fieldsThere (c .spoken) (o .arguments)))
+fieldsBy unknown c = refused unknownOperation 0 0
 
-unfoldable pub callFields : (op : ℕ) → Version → Result (List What)
-callFields op v = fieldsBy (find op) op v
+unfoldable pub callFields : Context → Result (List What)
+callFields c = fieldsBy (chosen c) c
 
 -- ---- the numbers of a call are fifteen: the twelve of the record, then its three counts. What is dropped is written as 0
 unfoldable pub valueFor : (numbers : List ℕ) → Target → ℕ
@@ -110,12 +110,12 @@ abbrev pub shapeBytes : (numbers bytes entries payload : List ℕ) → List What
 shapeBytes ns bytes es p ws =
     pick (isOfShape ns p ws) (onward (stringsOf ns bytes es ws) (λ cs. ok (fieldsBytes ns p cs ws))) (refused notOfShape 0 0)
 
-unfoldable pub callBytes : (op : ℕ) → Version → (numbers bytes entries payload : List ℕ) → Result (List ℕ)
-callBytes op v ns bytes es p = onward (callFields op v) (λ ws. shapeBytes ns bytes es p ws)
+unfoldable pub callBytes : Context → (numbers bytes entries payload : List ℕ) → Result (List ℕ)
+callBytes c ns bytes es p = onward (callFields c) (λ ws. shapeBytes ns bytes es p ws)
 
 -- last 10
 abbrev pub writeBytes : Result (List ℕ) → (lent : List ℕ) → Result ℕ
 writeBytes o lent = onward o (λ output. writing output lent)
 
-unfoldable pub writeOpArgs : (op : ℕ) → Version → (numbers bytes entries payload lent : List ℕ) → Result ℕ
-writeOpArgs op v ns bytes es p lent = writeBytes (callBytes op v ns bytes es p) lent
+unfoldable pub writeOpArgs : Context → (numbers bytes entries payload lent : List ℕ) → Result ℕ
+writeOpArgs c ns bytes es p lent = writeBytes (callBytes c ns bytes es p) lent

@@ -4,6 +4,8 @@ use mathlib.Core.List.{List, [], _∷_, _++_}
 use mathlib.Core.Bool.{Bool, _||_}
 use lib.ListN.{length}
 use lib.Dec.{leb, eqb}
+use Rattle.layouts.specs.declared.Mode.{Mode}
+use Rattle.layouts.specs.declared.Mode.the-variants.{Ported}
 use Rattle.layouts.specs.declared.Record.{Record}
 use Rattle.layouts.specs.Primitive.{pick, littleAt, numberAt, Version, version, cutShort, unknownOperation, Result, ok, refused, onward}
 use Rattle.layouts.specs.Shape.{dropped, asNumber, asCount, passed, kept, What, num, str, set, framed, Gated, always, once, Tree, fail, layout}
@@ -17,27 +19,40 @@ abbrev pub byRow : Row → (Operation → Tree) → Tree
 byRow (row o) k = k o
 byRow unknown k = fail unknownOperation 0
 
-unfoldable pub argumentsTree : ℕ → Version → Tree
-argumentsTree op v = byRow (find op) (λ o. layout v (once (o .arguments) ∷ []))
+-- what chooses the layout of arguments
+pub record Context : Type 0 where
+  pub mode : Mode
+  pub op : ℕ
+  pub spoken : Version
 
-unfoldable pub skippedTree : ℕ → Version → Tree
-skippedTree op v = byRow (find op) (λ o. layout v (once (o .skips) ∷ []))
+abbrev pub context : Mode → (op : ℕ) → Version → Context
+context m op v = record { mode = m; op = op; spoken = v }
 
-unfoldable pub replyTree : ℕ → Version → Tree
-replyTree op v = byRow (find op) (λ o. layout v (o .reply))
+abbrev pub chosen : Context → Row
+chosen c = find (c .mode) (c .op)
+
+unfoldable pub argumentsTree : Context → Tree
+argumentsTree c = byRow (chosen c) (λ o. layout (c .spoken) (once (o .arguments) ∷ []))
+
+unfoldable pub skippedTree : Context → Tree
+skippedTree c = byRow (chosen c) (λ o. layout (c .spoken) (once (o .skips) ∷ []))
+
+-- a reply is the same in both modes
+unfoldable pub replyTree : (op : ℕ) → Version → Tree
+replyTree op v = byRow (find Ported op) (λ o. layout v (o .reply))
 
 abbrev pub kindBy : Row → (Operation → Kinds) → Kinds
 kindBy (row o) k = k o
 kindBy unknown k = none
 
-abbrev pub argumentsKinds : (op : ℕ) → Kinds
-argumentsKinds op = kindBy (find op) (λ o. byNumber argumentsNumber (o .argumentsKind))
+abbrev pub argumentsKinds : Context → Kinds
+argumentsKinds c = kindBy (chosen c) (λ o. byNumber argumentsNumber (o .argumentsKind))
 
-abbrev pub skippedKinds : (op : ℕ) → Kinds
-skippedKinds op = kindBy (find op) (λ o. byNumber skippedNumber (skippedKind (o .skip)))
+abbrev pub skippedKinds : Context → Kinds
+skippedKinds c = kindBy (chosen c) (λ o. byNumber skippedNumber (skippedKind (o .skip)))
 
 abbrev pub replyKinds : (op : ℕ) → Kinds
-replyKinds op = kindBy (find op) (λ o. byNumber replyNumber (o .replyKind))
+replyKinds op = kindBy (find Ported op) (λ o. byNumber replyNumber (o .replyKind))
 
 -- ---- answers: kind, end (a handshake has two), numbers and counts
 pub record Answer : Type 0 where
@@ -52,8 +67,8 @@ answered v k o = onward o (λ e. ok (record { kind = kindOf v (e .found .present
 abbrev pub readOf : Version → Kinds → (slots room : ℕ) → List ℕ → Tree → Result Answer
 readOf v k slots room s t = answered v k (judgeOf s slots room blank (run t s 0))
 
-unfoldable pub readOpArgs : (op : ℕ) → Version → List ℕ → (slots room : ℕ) → Result Answer
-readOpArgs op v s slots room = readOf v (argumentsKinds op) slots room s (argumentsTree op v)
+unfoldable pub readOpArgs : Context → List ℕ → (slots room : ℕ) → Result Answer
+readOpArgs c s slots room = readOf (c .spoken) (argumentsKinds c) slots room s (argumentsTree c)
 
 unfoldable pub readDaemonResult : (op : ℕ) → Version → List ℕ → (slots room : ℕ) → Result Answer
 readDaemonResult op v s slots room = readOf v (replyKinds op) slots room s (replyTree op v)
@@ -62,8 +77,8 @@ unfoldable pub skipDaemonResult : (op : ℕ) → Version → List ℕ → Result
 skipDaemonResult op v s = skipOf (run (replyTree op v) s 0)
 
 -- one string is kept, and stands in the answer itself
-unfoldable pub skipOpArgs : (op : ℕ) → Version → List ℕ → Result Answer
-skipOpArgs op v s = readOf v (skippedKinds op) 1 0 s (skippedTree op v)
+unfoldable pub skipOpArgs : Context → List ℕ → Result Answer
+skipOpArgs c s = readOf (c .spoken) (skippedKinds c) 1 0 s (skippedTree c)
 
 -- lent memory after a read of these pieces
 abbrev pub entriesAfter : Result Answer → Pieces → (lent : List ℕ) → List ℕ
@@ -120,4 +135,4 @@ ifKnown (row o) a = ok a
 ifKnown unknown a = refused unknownOperation 0 0
 
 unfoldable pub opHasClientFramedData : ℕ → Result Bool
-opHasClientFramedData op = ifKnown (find op) (hasFramed op)
+opHasClientFramedData op = ifKnown (find Ported op) (hasFramed op)

@@ -13,7 +13,7 @@ use Rattle.layouts.specs.Pieces.{Pieces, number, text, half, chunk, end,
 use Rattle.layouts.specs.Record.{blank, recordOf}
 use Rattle.layouts.specs.Judge.{isDecoded, Ended, entriesOf}
 use Rattle.layouts.specs.Operations.{Kinds}
-use Rattle.layouts.specs.Calls.{Answer, answered, field}
+use Rattle.layouts.specs.Calls.{Context, Answer, answered, field}
 use Rattle.layouts.specs.Handshake.{Heard, heard, failed, ended, streamOf, Both, numberIn, handshakeAnswer}
 use Rattle.layouts.specs.Writers.{stringBytes, setBytes, textsOf}
 use Rattle.layouts.specs.Soft.{keptOf, recordHeard}
@@ -83,8 +83,8 @@ abbrev pub framedArguments : ℕ → Bool
 framedArguments op = eqb op 7 || eqb op 44 || eqb op 45
 
 -- AddToStore below 1.25 is read as nothing and skipped as S N N s; else the two calls speak of the same fields
-abbrev pub Alike : ℕ → Version → Type 0
-Alike op v = op ≡ 7 → atLeast v (version 1 25) ≡ true
+abbrev pub Alike : Context → Type 0
+Alike c = c .op ≡ 7 → atLeast (c .spoken) (version 1 25) ≡ true
 
 -- ---- demand 3
 -- what the pieces mean: kind, end, numbers, flags and counts

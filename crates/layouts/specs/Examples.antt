@@ -1,14 +1,15 @@
 -- The worked examples P1 to P12 of document 01: one table. A second one, of the errors that 01 calls easy and of the order of judging. A third one, of calls that
--- are written.
+-- are written. A fourth one, of both modes.
 use Prim.Native.Nat.{ℕ}
 use mathlib.Core.List.{List, [], _∷_, _++_}
 use mathlib.Core.Bool.{Bool}
 use lib.ListN.{replicate, getD}
+use Rattle.layouts.specs.declared.Mode.the-variants.{Ported, Published}
 use Rattle.layouts.specs.Primitive.{pick, numberBytes, version, fromWire, atLeast, Version, Result, ok, refused}
 use Rattle.layouts.specs.Shape.{kept, str, framed}
 use Rattle.layouts.specs.Pieces.{run}
 use Rattle.layouts.specs.Judge.{Ended, entriesOf, payloadOf}
-use Rattle.layouts.specs.Calls.{Answer, readOpArgs, skipOpArgs, skipDaemonResult, field, skipString, readString, readStringSet, readFramed}
+use Rattle.layouts.specs.Calls.{Context, context, Answer, readOpArgs, skipOpArgs, skipDaemonResult, field, skipString, readString, readStringSet, readFramed}
 use Rattle.layouts.specs.Stderr.{Next, Last, readStderrLoop}
 use Rattle.layouts.specs.Handshake.{parseHandshake}
 use Rattle.layouts.specs.Writers.{partOf}
@@ -33,6 +34,13 @@ pair v = v .major ∷ v .minor ∷ []
 
 abbrev pub yes? : Bool → List ℕ
 yes? b = pick b 1 0 ∷ []
+
+-- an operation at 1.x, in a mode
+abbrev pub asPorted : (op x : ℕ) → Context
+asPorted op x = context Ported op (version 1 x)
+
+abbrev pub asPublished : (op x : ℕ) → Context
+asPublished op x = context Published op (version 1 x)
 
 pub record Example : Type 0 where
   pub computed : List ℕ
@@ -77,7 +85,7 @@ examples =
     -- P10 framed 2, ab, 0: end 18; room 1: 5 at 0. Its payload: ab
     ex (seen (readFramed framed-ab 0 2) ++ seen (readFramed framed-ab 0 1) ++ payloadOf framed-ab (run (field framed) framed-ab 0)) (0 ∷ 18 ∷ 5 ∷ 0 ∷ 0x61 ∷ 0x62 ∷ []) ∷
     -- P11 AddToStore arguments at 1.24: read none, end 0; skip of two empty strings around two numbers ends 32
-    ex (told (readOpArgs 7 (version 1 24) around-two 0 0) ++ told (skipOpArgs 7 (version 1 24) around-two)) (0 ∷ 0 ∷ 0 ∷ 0 ∷ 2 ∷ 32 ∷ 0 ∷ 0 ∷ []) ∷
+    ex (told (readOpArgs (asPorted 7 24) around-two 0 0) ++ told (skipOpArgs (asPorted 7 24) around-two)) (0 ∷ 0 ∷ 0 ∷ 0 ∷ 2 ∷ 32 ∷ 0 ∷ 0 ∷ []) ∷
     -- P12 set count 2^64 - 1 alone: 1 at 8
     ex (seen (readStringSet (replicate 8 0xFF) 0 0)) (1 ∷ 8 ∷ []) ∷
     []
@@ -94,8 +102,8 @@ pitfalls =
     -- a build result at 1.29: N, empty s, four numbers 5, no map
     ex (skip (skipDaemonResult 36 (version 1 29) (N# 0 ++ N# 0 ++ N# 5 ++ N# 5 ++ N# 5 ++ N# 5 ++ N# 0))) (0 ∷ 56 ∷ []) ∷
     -- skipped arguments check the string that they answer: the first of 37, and not the set
-    ex (told (skipOpArgs 37 (version 1 34) (N# 1 ++ (0xFF ∷ replicate 7 0) ++ N# 0))) (3 ∷ 8 ∷ 0 ∷ []) ∷
-    ex (told (skipOpArgs 37 (version 1 34) (N# 0 ++ N# 1 ++ N# 1 ++ (0xFF ∷ replicate 7 0)))) (2 ∷ 32 ∷ 0 ∷ 0 ∷ []) ∷
+    ex (told (skipOpArgs (asPorted 37 34) (N# 1 ++ (0xFF ∷ replicate 7 0) ++ N# 0))) (3 ∷ 8 ∷ 0 ∷ []) ∷
+    ex (told (skipOpArgs (asPorted 37 34) (N# 0 ++ N# 1 ++ N# 1 ++ (0xFF ∷ replicate 7 0)))) (2 ∷ 32 ∷ 0 ∷ 0 ∷ []) ∷
     -- text before room; text before padding; room after padding
     ex (seen (readStringSet (N# 1 ++ N# 1 ++ (0xFF ∷ replicate 7 0)) 0 0)) (3 ∷ 16 ∷ []) ∷
     ex (seen (readStringSet (N# 1 ++ N# 1 ++ (0xFF ∷ [])) 0 0)) (3 ∷ 16 ∷ []) ∷
@@ -114,17 +122,42 @@ pitfalls =
 unfoldable pub callsWritten : List Example
 callsWritten =
     -- the obsolete numbers of CollectGarbage are written as 0
-    ex (partOf (callBytes 20 (version 1 38) (1 ∷ 2 ∷ 3 ∷ replicate 12 0) [] [] [])) (N# 1 ++ N# 0 ++ N# 2 ++ N# 3 ++ N# 0 ++ N# 0 ++ N# 0) ∷
+    ex (partOf (callBytes (asPorted 20 38) (1 ∷ 2 ∷ 3 ∷ replicate 12 0) [] [] [])) (N# 1 ++ N# 0 ++ N# 2 ++ N# 3 ++ N# 0 ++ N# 0 ++ N# 0) ∷
     -- 9; 13; 14 before 11, by a number that AddPermRoot lacks
-    ex (skip (writeOpArgs 48 (version 1 38) (replicate 15 0) [] [] [] [])) (9 ∷ 0 ∷ []) ∷
-    ex (skip (writeOpArgs 7 (version 1 24) (1 ∷ replicate 14 0) [] [] [] [])) (13 ∷ 0 ∷ []) ∷
-    ex (skip (writeOpArgs 47 (version 1 38) (1 ∷ replicate 14 0) [] [] [] [])) (14 ∷ 0 ∷ []) ∷
+    ex (skip (writeOpArgs (asPorted 48 38) (replicate 15 0) [] [] [] [])) (9 ∷ 0 ∷ []) ∷
+    ex (skip (writeOpArgs (asPorted 7 24) (1 ∷ replicate 14 0) [] [] [] [])) (13 ∷ 0 ∷ []) ∷
+    ex (skip (writeOpArgs (asPorted 47 38) (1 ∷ replicate 14 0) [] [] [] [])) (14 ∷ 0 ∷ []) ∷
     -- 14 by a flag above 1
-    ex (skip (writeOpArgs 35 (version 1 38) (2 ∷ replicate 14 0) [] [] [] [])) (14 ∷ 0 ∷ []) ∷
+    ex (skip (writeOpArgs (asPorted 35 38) (2 ∷ replicate 14 0) [] [] [] [])) (14 ∷ 0 ∷ []) ∷
     -- 11 before 12: its second string has no entry, its first a bad one. 12 before 10; 10
-    ex (skip (writeOpArgs 47 (version 1 38) (replicate 15 0) [] (1 ∷ 1 ∷ []) [] [])) (11 ∷ 0 ∷ []) ∷
-    ex (skip (writeOpArgs 1 (version 1 38) (replicate 15 0) [] (1 ∷ 1 ∷ []) [] [])) (12 ∷ 0 ∷ []) ∷
-    ex (skip (writeOpArgs 1 (version 1 38) (replicate 15 0) [] (0 ∷ 0 ∷ []) [] (replicate 7 0))) (10 ∷ 0 ∷ []) ∷
+    ex (skip (writeOpArgs (asPorted 47 38) (replicate 15 0) [] (1 ∷ 1 ∷ []) [] [])) (11 ∷ 0 ∷ []) ∷
+    ex (skip (writeOpArgs (asPorted 1 38) (replicate 15 0) [] (1 ∷ 1 ∷ []) [] [])) (12 ∷ 0 ∷ []) ∷
+    ex (skip (writeOpArgs (asPorted 1 38) (replicate 15 0) [] (0 ∷ 0 ∷ []) [] (replicate 7 0))) (10 ∷ 0 ∷ []) ∷
     -- 2^63 pairs: 11 at their count, not at its double
-    ex (skip (writeOpArgs 19 (version 1 12) (replicate 12 0 ++ (9223372036854775808 ∷ 0 ∷ 0 ∷ [])) [] [] [] [])) (11 ∷ 9223372036854775808 ∷ []) ∷
+    ex (skip (writeOpArgs (asPorted 19 12) (replicate 12 0 ++ (9223372036854775808 ∷ 0 ∷ 0 ∷ [])) [] [] [] [])) (11 ∷ 9223372036854775808 ∷ []) ∷
+    []
+
+-- streams of empty strings, and one whose second string is no text
+abbrev pub one-pair : List ℕ
+one-pair = N# 1 ++ N# 0 ++ N# 0
+
+abbrev pub two-strings : List ℕ
+two-strings = N# 0 ++ N# 1 ++ (0xFF ∷ replicate 7 0)
+
+unfoldable pub modes : List Example
+modes =
+    -- 30 is pairs from 1.22 on in published mode, and a set of one string otherwise
+    ex (told (readOpArgs (asPublished 30 22) one-pair 2 0)) (20 ∷ 24 ∷ 0 ∷ 0 ∷ []) ∷
+    ex (told (readOpArgs (asPublished 30 21) one-pair 2 0)) (19 ∷ 16 ∷ 0 ∷ 0 ∷ []) ∷
+    ex (told (readOpArgs (asPorted 30 22) one-pair 2 0)) (19 ∷ 16 ∷ 0 ∷ 0 ∷ []) ∷
+    -- 42 is two strings below 1.31 in published mode, and one otherwise
+    ex (told (readOpArgs (asPublished 42 30) (N# 0 ++ N# 0) 2 0)) (21 ∷ 16 ∷ 0 ∷ 0 ∷ []) ∷
+    ex (told (readOpArgs (asPublished 42 31) (N# 0 ++ N# 0) 2 0)) (16 ∷ 8 ∷ 0 ∷ 0 ∷ []) ∷
+    ex (told (readOpArgs (asPorted 42 30) (N# 0 ++ N# 0) 2 0)) (16 ∷ 8 ∷ 0 ∷ 0 ∷ []) ∷
+    -- skipped, 30 counts its pairs, and 42 answers its first string and does not look at the second
+    ex (told (skipOpArgs (asPublished 30 22) one-pair)) (3 ∷ 24 ∷ 1 ∷ 0 ∷ []) ∷
+    ex (told (skipOpArgs (asPublished 42 30) two-strings) ++ told (readOpArgs (asPublished 42 30) two-strings 2 0)) (2 ∷ 24 ∷ 0 ∷ 0 ∷ 3 ∷ 16 ∷ 0 ∷ []) ∷
+    -- written, a pair is two strings
+    ex (partOf (callBytes (asPublished 30 22) (replicate 12 0 ++ (1 ∷ 0 ∷ 0 ∷ [])) [] (replicate 4 0) [])) one-pair ∷
+    ex (partOf (callBytes (asPublished 42 30) (replicate 15 0) [] (replicate 4 0) [])) (N# 0 ++ N# 0) ∷
     []

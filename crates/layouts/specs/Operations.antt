@@ -4,6 +4,8 @@ use Prim.Native.Nat.{ℕ, max}
 use mathlib.Core.List.{List, [], _∷_, _++_, map}
 use mathlib.Core.Bool.{Bool, true, false}
 use lib.Dec.{eqb}
+use Rattle.layouts.specs.declared.Mode.{Mode}
+use Rattle.layouts.specs.declared.Mode.the-variants.{Ported, Published}
 use Rattle.layouts.specs.Primitive.{pick, Version, version, atLeast}
 use Rattle.layouts.specs.Shape.{Target, dropped, asNumber, asFlag, asCount, asPresence, passed, checked, kept, What, num, str, set, pairs, framed, maybe, typed, Gated, always, from, below, between, Group, once, opt, many}
 
@@ -53,7 +55,7 @@ until x ws = map (below x) ws
 
 -- ---- kinds of answers, with their numbers: three types, so that no row names one of another call
 pub data ArgumentsKind : Type 0 where
-  SinglePath SingleString PathSet PathSetFlag PathSetMode NoArgs SetOptions CollectGarbage VerifyStore AddPermRoot AddSignatures AddTextToStore AddToStore AddMultipleToStore AddBuildLog RegisterDrvOutput QueryRealisation QuerySubstitutablePathInfo QuerySubstitutablePathInfos : ArgumentsKind
+  SinglePath SingleString PathSet PathSetFlag PathSetMode NoArgs SetOptions CollectGarbage VerifyStore AddPermRoot AddSignatures AddTextToStore AddToStore AddMultipleToStore AddBuildLog RegisterDrvOutput QueryRealisation QuerySubstitutablePathInfo QuerySubstitutablePathInfos QuerySubstitutablePairs RegisterDrvOutputOld : ArgumentsKind
 
 abbrev pub argumentsNumber : ArgumentsKind → ℕ
 argumentsNumber SinglePath = 1
@@ -75,6 +77,8 @@ argumentsNumber RegisterDrvOutput = 16
 argumentsNumber QueryRealisation = 17
 argumentsNumber QuerySubstitutablePathInfo = 18
 argumentsNumber QuerySubstitutablePathInfos = 19
+argumentsNumber QuerySubstitutablePairs = 20
+argumentsNumber RegisterDrvOutputOld = 21
 
 pub data ReplyKind : Type 0 where
   U64 Str PathInfo PathInfoOld NoPathInfo StringSet StringMap BytesFreed SubstitutablePathInfo NoSubstitutablePathInfo Missing Framed : ReplyKind
@@ -230,6 +234,10 @@ aSet = once (S* 0 ∷ []) ∷ []
 abbrev pub aMap : List Group
 aMap = once (P 0 ∷ []) ∷ []
 
+-- 30: count of S S s* n n
+abbrev pub substitutes : List Group
+substitutes = many (asCount 0) (S ∷ S ∷ s* ∷ n ∷ n ∷ []) ∷ []
+
 unfoldable pub operations : List Operation
 operations =
     op 1 (S ∷ []) (only SinglePath) first aNumber (only U64) ∷
@@ -253,7 +261,7 @@ operations =
     op 26 (S ∷ []) (only SinglePath) first (opt asPresence info ∷ []) (byFlag pathInfo (only NoPathInfo)) ∷
     op 28 (S ∷ []) (only SinglePath) first aSet (only StringSet) ∷
     op 29 (S ∷ []) (only SingleString) first aString (only Str) ∷
-    op 30 (S* 0 ∷ []) (only QuerySubstitutablePathInfos) paths (many (asCount 0) (S ∷ S ∷ s* ∷ n ∷ n ∷ []) ∷ []) (only StringMap) ∷
+    op 30 (S* 0 ∷ []) (only QuerySubstitutablePathInfos) paths substitutes (only StringMap) ∷
     op 31 (S* 0 ∷ since 27 (flag 0 ∷ [])) (only PathSetFlag) paths aSet (only StringSet) ∷
     op 32 (S* 0 ∷ []) (only PathSet) paths aSet (only StringSet) ∷
     op 33 (S ∷ []) (only SinglePath) first aSet (only StringSet) ∷
@@ -273,6 +281,18 @@ operations =
     op 47 (S ∷ S ∷ []) (only AddPermRoot) empty aString (only Str) ∷
     []
 
+-- request W-203, the rows that published mode has in place of these: 30 is below 1.22 S*, from 1.22 P; 42 is S, below 1.31 S
+unfoldable pub published : List Operation
+published =
+    op 30 (until 22 (set kept (asCount 0) ∷ []) ++ since 22 (P 0 ∷ [])) (byVersion 22 (only QuerySubstitutablePairs) (only QuerySubstitutablePathInfos)) paths substitutes
+    (only StringMap) ∷
+    op 42 (S ∷ until 31 (str kept ∷ [])) (byVersion 31 (only RegisterDrvOutput) (only RegisterDrvOutputOld)) first [] none ∷
+    []
+
+abbrev pub rowsIn : Mode → List Operation
+rowsIn Ported = operations
+rowsIn Published = published ++ operations
+
 pub data Row : Type 0 where
   row : Operation → Row
   unknown : Row
@@ -285,6 +305,6 @@ unfoldable pub findIn : List Operation → ℕ → Row
 findIn [] c = unknown
 findIn (o ∷ os) c = rowIf (eqb (o .code) c) o (findIn os c)
 
-unfoldable pub find : ℕ → Row
+unfoldable pub find : Mode → (op : ℕ) → Row
 unfolding findIn
-find c = findIn operations c
+find m c = findIn (rowsIn m) c

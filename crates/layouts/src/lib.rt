@@ -43,6 +43,12 @@ pub const NO_ARGUMENTS: u64 = 13;
 // The call writer: what no field takes is not 0 or empty, or a flag is above 1.
 pub const NOT_OF_SHAPE: u64 = 14;
 
+// How a call's arguments are read: as nix-wire does, or as the daemon's published source has them.
+pub enum Mode {
+    Ported,
+    Published,
+}
+
 // Why a call stops: the refusal's number, its place, and 1 for the daemon's stream of a handshake, else 0.
 pub struct Refusal {
     pub which: u64,

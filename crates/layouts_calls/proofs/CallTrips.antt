@@ -16,9 +16,9 @@ use Rattle.layouts.specs.Shape.{What, once, Tree, stop, group, groups, layout}
 use Rattle.layouts.specs.Pieces.{Pieces, end, run}
 use Rattle.layouts.specs.Record.{blank}
 use Rattle.layouts.specs.Judge.{judgeOf, entriesOf, payloadOf}
-use Rattle.layouts.specs.Operations.{kindOf, Operation, Row, row, unknown, find}
+use Rattle.layouts.specs.Operations.{kindOf, Operation, Row, row, unknown}
 use Rattle.layouts.specs.Grammar.{Says, says-end}
-use Rattle.layouts.specs.Calls.{argumentsTree, byRow, argumentsKinds, answered, readOpArgs}
+use Rattle.layouts.specs.Calls.{Context, chosen, argumentsTree, byRow, argumentsKinds, answered, readOpArgs}
 use Rattle.layouts.specs.Writers.{slotsOf, viewOf, textsFrom, writing}
 use Rattle.layouts.specs.Demands.{Strings}
 use Rattle.layouts.specs.CallWriter.{fieldsThere, fieldsBy, callFields, valueFor, targetIn, leave, leftBy, allZero, isFramed, hasFrames, isOfShape, stringsIn, entriesFor, fieldBytes, fieldsBytes, stringsOf, shapeBytes, callBytes, writeOpArgs}
@@ -238,73 +238,76 @@ layout-fields : (v : Version) (o : Operation) → layout v (once (o .arguments) 
 unfolding layout groups group
 layout-fields v o = fields-there v (o .arguments) (λ u. stop)
 
-module _ (op : ℕ) (v : Version) (ws : List What) (h : callFields op v ≡ ok ws) where
+module _ (c : Context) (ws : List What) (h : callFields c ≡ ok ws) where
+  abbrev v : Version
+  v = c .spoken
+
   -- the fields of a call: the tree that reads them, that they can be written, and that the call has a kind
-  pub call-known : (argumentsTree op v ≡ fieldsTree ws (λ u. stop)) × AllWritable ws × (0 < kindOf v false (argumentsKinds op))
+  pub call-known : (argumentsTree c ≡ fieldsTree ws (λ u. stop)) × AllWritable ws × (0 < kindOf v false (argumentsKinds c))
   unfolding callFields argumentsTree
-  call-known = by (find op) refl h
+  call-known = by (chosen c) refl h
     where
-      by : (f : Row) → find op ≡ f → fieldsBy f op v ≡ ok ws
-          → (byRow f (λ o. layout v (once (o .arguments) ∷ [])) ≡ fieldsTree ws (λ u. stop)) × AllWritable ws × (0 < kindOf v false (argumentsKinds op))
+      by : (f : Row) → chosen c ≡ f → fieldsBy f c ≡ ok ws
+          → (byRow f (λ o. layout v (once (o .arguments) ∷ [])) ≡ fieldsTree ws (λ u. stop)) × AllWritable ws × (0 < kindOf v false (argumentsKinds c))
       by (row o) e q =
-          let k = kindOf v false (argumentsKinds op) in
+          let k = kindOf v false (argumentsKinds c) in
           let a = not-refused (eqb k 0) noArguments 0 (ok (fieldsThere v (o .arguments))) ws q in
           let z : fieldsThere v (o .arguments) ≡ ws = let y = a .1 in cc in
           let n = eqb-false k 0 (a .0) in
-          (layout-fields v o ∙ ap (λ (l : List What). fieldsTree l (λ u. stop)) z, subst AllWritable z (row-writable op v o e), omega arith)
+          (layout-fields v o ∙ ap (λ (l : List What). fieldsTree l (λ u. stop)) z, subst AllWritable z (row-writable c o e), omega arith)
       by unknown e q = absurd (never-both q)
 
-tree-read : (op : ℕ) (v : Version) (ns p : List ℕ) (cs : List (List ℕ)) (s : List ℕ) (slots room ends : ℕ) → 0 < kindOf v false (argumentsKinds op)
-    → TreeBack (argumentsTree op v) ns p cs s slots room ends → ReadBack op v ns p cs s slots room ends
+tree-read : (c : Context) (ns p : List ℕ) (cs : List (List ℕ)) (s : List ℕ) (slots room ends : ℕ) → 0 < kindOf (c .spoken) false (argumentsKinds c)
+    → TreeBack (argumentsTree c) ns p cs s slots room ends → ReadBack c ns p cs s slots room ends
 unfolding readOpArgs
-tree-read op v ns p cs s slots room ends k y =
+tree-read c ns p cs s slots room ends k y =
     record {
-      answer = record { kind = kindOf v (y .found .present) (argumentsKinds op); ends = ends; ends2 = 0; found = y .found };
-      reads = ap (answered v (argumentsKinds op)) (y .judged);
+      answer = record { kind = kindOf (c .spoken) (y .found .present) (argumentsKinds c); ends = ends; ends2 = 0; found = y .found };
+      reads = ap (answered (c .spoken) (argumentsKinds c)) (y .judged);
       kind = rw (y .absent) k;
       stops = refl;
       same = y .same;
       entries = y .entries;
       views =
           λ spare i l.
-          ap (viewOf s (entriesOf (callPieces op v s) ++ spare)) (sym (zero-add i))
-          ∙ texts-told s (entriesOf (callPieces op v s) ++ spare) (length cs) 0 cs (y .texts spare) .views i l;
+          ap (viewOf s (entriesOf (callPieces c s) ++ spare)) (sym (zero-add i))
+          ∙ texts-told s (entriesOf (callPieces c s) ++ spare) (length cs) 0 cs (y .texts spare) .views i l;
       size = y .size;
       holds = y .holds;
     }
 
-module _ (op : ℕ) (v : Version) (ns bytes es : List ℕ) where
+module _ (c : Context) (ns bytes es : List ℕ) where
   -- an answer tells the length of what is written
-  pub call-told : (p lent : List ℕ) (n : ℕ) → writeOpArgs op v ns bytes es p lent ≡ ok n → (out : List ℕ) × (callBytes op v ns bytes es p ≡ ok out) × (length out ≡ n)
+  pub call-told : (p lent : List ℕ) (n : ℕ) → writeOpArgs c ns bytes es p lent ≡ ok n → (out : List ℕ) × (callBytes c ns bytes es p ≡ ok out) × (length out ≡ n)
   unfolding writeOpArgs
   call-told p lent n h =
-      let a = onward-ok (callBytes op v ns bytes es p) (λ out. writing out lent) n h in
+      let a = onward-ok (callBytes c ns bytes es p) (λ out. writing out lent) n h in
       (a .0, a .1, writing-told (a .0) lent n (a .2))
 
   -- what is written has its strings
-  pub written-strings : (p out : List ℕ) → callBytes op v ns bytes es p ≡ ok out → (cs : List (List ℕ)) × (callStrings op v ns bytes es ≡ ok cs)
+  pub written-strings : (p out : List ℕ) → callBytes c ns bytes es p ≡ ok out → (cs : List (List ℕ)) × (callStrings c ns bytes es ≡ ok cs)
   unfolding callBytes callStrings
   written-strings p out h =
-      let a = onward-ok (callFields op v) (λ ws. shapeBytes ns bytes es p ws) out h in
+      let a = onward-ok (callFields c) (λ ws. shapeBytes ns bytes es p ws) out h in
       let ws = a .0 in
       let b = pick-ok (isOfShape ns p ws) notOfShape 0 (onward (stringsOf ns bytes es ws) (λ cs. ok (fieldsBytes ns p cs ws))) out (a .2) in
-      let c = onward-ok (stringsOf ns bytes es ws) (λ cs. ok (fieldsBytes ns p cs ws)) out (b .1) in
-      (c .0, ap (λ (o : Result (List What)). onward o (λ ws. stringsOf ns bytes es ws)) (a .1) ∙ c .1)
+      let d = onward-ok (stringsOf ns bytes es ws) (λ cs. ok (fieldsBytes ns p cs ws)) out (b .1) in
+      (d .0, ap (λ (o : Result (List What)). onward o (λ ws. stringsOf ns bytes es ws)) (a .1) ∙ d .1)
 
-  module _ (cs : List (List ℕ)) (q : callStrings op v ns bytes es ≡ ok cs) where
+  module _ (cs : List (List ℕ)) (q : callStrings c ns bytes es ≡ ok cs) where
     -- each of which is what its entry says, and text
     pub strings-are : Told bytes es (length cs) 0 cs
     unfolding callStrings
-    strings-are = let a = onward-ok (callFields op v) (λ ws. stringsOf ns bytes es ws) cs q in strings-told ns bytes es (a .0) cs (a .2) .1
+    strings-are = let a = onward-ok (callFields c) (λ ws. stringsOf ns bytes es ws) cs q in strings-told ns bytes es (a .0) cs (a .2) .1
 
     -- W-201: a call that is written reads back, whatever follows it
-    pub written-read : (p out behind : List ℕ) (slots room : ℕ) → Fifteen ns → callBytes op v ns bytes es p ≡ ok out → NoneLong cs → length cs ≤ slots → length p ≤ room
-        → ReadBack op v ns p cs (out ++ behind) slots room (length out)
+    pub written-read : (p out behind : List ℕ) (slots room : ℕ) → Fifteen ns → callBytes c ns bytes es p ≡ ok out → NoneLong cs → length cs ≤ slots → length p ≤ room
+        → ReadBack c ns p cs (out ++ behind) slots room (length out)
     unfolding callBytes callStrings
     written-read p out behind slots room f h l g e =
-        let a = onward-ok (callFields op v) (λ ws. shapeBytes ns bytes es p ws) out h in
-        let k = call-known op v (a .0) (a .1) in
-        let c : stringsOf ns bytes es (a .0) ≡ ok cs = sym (ap (λ (o : Result (List What)). onward o (λ ws. stringsOf ns bytes es ws)) (a .1)) ∙ q in
-        let y = fields-read ns bytes es p out behind (a .0) cs slots room (k .1) f (a .2) c l g e in
-        tree-read op v ns p cs (out ++ behind) slots room (length out) (k .2)
+        let a = onward-ok (callFields c) (λ ws. shapeBytes ns bytes es p ws) out h in
+        let k = call-known c (a .0) (a .1) in
+        let d : stringsOf ns bytes es (a .0) ≡ ok cs = sym (ap (λ (o : Result (List What)). onward o (λ ws. stringsOf ns bytes es ws)) (a .1)) ∙ q in
+        let y = fields-read ns bytes es p out behind (a .0) cs slots room (k .1) f (a .2) d l g e in
+        tree-read c ns p cs (out ++ behind) slots room (length out) (k .2)
         (subst (λ (t : Tree). TreeBack t ns p cs (out ++ behind) slots room (length out)) (sym (k .0)) y)

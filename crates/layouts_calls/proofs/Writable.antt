@@ -1,14 +1,17 @@
 -- Which fields can be written as a call: one test, computed of all operations, and what it says. Written, then read, and read, then written, both stand on it.
 use Prim.Native.Nat.{ℕ, _+_}
-use mathlib.Core.Path.{_≡_, refl, sym, ap}
+use mathlib.Core.Path.{_≡_, refl, sym, ap, subst}
 use mathlib.Core.List.{List, [], _∷_, map}
 use mathlib.Core.Bool.{Bool, true, false, not, _&&_, _||_}
 use lib.Dec.{ltb, eqb}
-use borrow.Author.Tests.{not-true}
-use Rattle.layouts.specs.Primitive.{pick, Version}
-use Rattle.layouts.specs.Shape.{Target, dropped, asNumber, asFlag, asCount, asPresence, Role, passed, checked, kept, What, num, str, set, pairs, framed, maybe, typed, Gated, there, what}
+use borrow.Author.Tests.{not-true, eqb-true}
+use Rattle.layouts.specs.declared.Mode.{Mode}
+use Rattle.layouts.specs.declared.Mode.the-variants.{Ported, Published}
+use Rattle.layouts.specs.Primitive.{pick, Version, version, atLeast}
+use Rattle.layouts.specs.Shape.{Target, dropped, asNumber, asFlag, asCount, asPresence, Role, passed, checked, kept, What, num, str, set, pairs, framed, maybe, typed, Gated, always, from, below, between, there, what}
 use Rattle.layouts.specs.Record.{isKept}
-use Rattle.layouts.specs.Operations.{Operation, operations, row, find}
+use Rattle.layouts.specs.Operations.{Operation, operations, published, rowsIn, row, find}
+use Rattle.layouts.specs.Calls.{Context, chosen}
 use Rattle.layouts.specs.CallWriter.{fieldsThere, targetIn, isFramed, hasFrames}
 use Rattle.layouts.proofs.Theorems.{never-true}
 use Rattle.layouts.proofs.Arguments.{found}
@@ -90,13 +93,31 @@ free (asFlag i) ws = not (taken ws i)
 free (asCount i) ws = not (taken ws (12 + i))
 free asPresence ws = true
 
-abbrev isNone : List What → Bool
+abbrev isNone : List Gated → Bool
 isNone [] = true
-isNone (w ∷ ws) = false
+isNone (x ∷ xs) = false
 
-abbrev areWritable : List What → Bool
+-- one field ends at the version at which the other begins: the two are never there together
+abbrev beginsAt : ℕ → Gated → Bool
+beginsAt a (always w) = false
+beginsAt a (from b w) = eqb a b
+beginsAt a (below b w) = false
+beginsAt a (between b c w) = false
+
+abbrev apart : Gated → Gated → Bool
+apart (always w) y = false
+apart (from a w) y = false
+apart (below a w) y = beginsAt a y
+apart (between a b w) y = false
+
+-- those that may be there beside a field
+abbrev beside : Gated → List Gated → List What
+beside x [] = []
+beside x (y ∷ ys) = pick (apart x y) (beside x ys) (what y ∷ beside x ys)
+
+abbrev areWritable : List Gated → Bool
 areWritable [] = true
-areWritable (w ∷ ws) = isWritable w && (free (targetIn w) ws && (pick (isFramed w) (isNone ws) true && areWritable ws))
+areWritable (x ∷ xs) = isWritable (what x) && (free (targetIn (what x)) (beside x xs) && (pick (isFramed (what x)) (isNone xs) true && areWritable xs))
 
 -- what it says of a field and those behind it: of framed data that it comes once
 pub record WritableBefore (w : What) (ws : List What) : Type 0 where
@@ -110,44 +131,66 @@ AllWritable (w ∷ ws) = WritableBefore w ws × AllWritable ws
 
 -- ---- the fields that are there at a version are some of a row's
 module _ (v : Version) where
-  fewer-taken : (xs : List Gated) (j : ℕ) → taken (map what xs) j ≡ false → taken (fieldsThere v xs) j ≡ false
-  unfolding fieldsThere
-  fewer-taken [] j e = refl
-  fewer-taken (x ∷ xs) j e =
-      let a = neither-true (takes (targetIn (what x)) j) _ e in
-      let h = fewer-taken xs j (a .1) in
-      either (λ (ws : List What). taken ws j ≡ false) (there v x) _ _ (rw (a .0) h) h
+  begun : (a : ℕ) (y : Gated) → beginsAt a y ≡ true → atLeast v (version 1 a) ≡ false → there v y ≡ false
+  begun a (always w) e f = absurd (never-true e)
+  begun a (from b w) e f = subst (λ (n : ℕ). atLeast v (version 1 n) ≡ false) (eqb-true a b e) f
+  begun a (below b w) e f = absurd (never-true e)
+  begun a (between b c w) e f = absurd (never-true e)
 
-  fewer-free : (xs : List Gated) (t : Target) → free t (map what xs) ≡ true → free t (fieldsThere v xs) ≡ true
-  fewer-free xs dropped e = refl
-  fewer-free xs (asNumber i) e = ap not (fewer-taken xs i (not-true _ e))
-  fewer-free xs (asFlag i) e = ap not (fewer-taken xs i (not-true _ e))
-  fewer-free xs (asCount i) e = ap not (fewer-taken xs (12 + i) (not-true _ e))
-  fewer-free xs asPresence e = refl
+  not-beside : (x y : Gated) → apart x y ≡ true → there v x ≡ true → there v y ≡ false
+  not-beside (always w) y e t = absurd (never-true e)
+  not-beside (from a w) y e t = absurd (never-true e)
+  not-beside (below a w) y e t = begun a y e (not-true _ t)
+  not-beside (between a b w) y e t = absurd (never-true e)
 
-  last-once : (xs : List Gated) (b : Bool) → pick b (isNone (map what xs)) true ≡ true → b && hasFrames (fieldsThere v xs) ≡ false
+  module _ (x : Gated) (t : there v x ≡ true) where
+    fewer-taken : (xs : List Gated) (j : ℕ) → taken (beside x xs) j ≡ false → taken (fieldsThere v xs) j ≡ false
+    unfolding fieldsThere
+    fewer-taken [] j e = refl
+    fewer-taken (y ∷ ys) j e = by (apart x y) refl e (fewer-taken ys j)
+      where
+        by : (b : Bool) → apart x y ≡ b → taken (pick b (beside x ys) (what y ∷ beside x ys)) j ≡ false
+            → (taken (beside x ys) j ≡ false → taken (fieldsThere v ys) j ≡ false) → taken (fieldsThere v (y ∷ ys)) j ≡ false
+        by true a e h = rw (not-beside x y a t) (h e)
+        by false a e h =
+            let n = neither-true (takes (targetIn (what y)) j) _ e in
+            either (λ (ws : List What). taken ws j ≡ false) (there v y) _ _ (rw (n .0) (h (n .1))) (h (n .1))
+
+    fewer-free : (xs : List Gated) (i : Target) → free i (beside x xs) ≡ true → free i (fieldsThere v xs) ≡ true
+    fewer-free xs dropped e = refl
+    fewer-free xs (asNumber i) e = ap not (fewer-taken xs i (not-true _ e))
+    fewer-free xs (asFlag i) e = ap not (fewer-taken xs i (not-true _ e))
+    fewer-free xs (asCount i) e = ap not (fewer-taken xs (12 + i) (not-true _ e))
+    fewer-free xs asPresence e = refl
+
+  last-once : (xs : List Gated) (b : Bool) → pick b (isNone xs) true ≡ true → b && hasFrames (fieldsThere v xs) ≡ false
   unfolding fieldsThere hasFrames
   last-once [] true e = refl
   last-once (x ∷ xs) true e = absurd (never-true e)
   last-once xs false e = refl
 
-  all-writable : (xs : List Gated) → areWritable (map what xs) ≡ true → AllWritable (fieldsThere v xs)
+  all-writable : (xs : List Gated) → areWritable xs ≡ true → AllWritable (fieldsThere v xs)
   unfolding fieldsThere
   all-writable [] e = tt
   all-writable (x ∷ xs) e =
       let w = what x in
       let a = and-true (isWritable w) _ e in
-      let b = and-true (free (targetIn w) (map what xs)) _ (a .1) in
-      let c = and-true (pick (isFramed w) (isNone (map what xs)) true) _ (b .1) in
-      let h = all-writable xs (c .1) in
-      let first : WritableBefore w (fieldsThere v xs) = record { can = writable-by w (a .0); own = fewer-free xs (targetIn w) (b .0); once = last-once xs (isFramed w) (c .0) } in
-      either AllWritable (there v x) _ _ (first, h) h
+      let b = and-true (free (targetIn w) (beside x xs)) _ (a .1) in
+      let c = and-true (pick (isFramed w) (isNone xs) true) _ (b .1) in
+      by (there v x) refl (all-writable xs (c .1))
+      (λ t. record { can = writable-by w (a .0); own = fewer-free x t xs (targetIn w) (b .0); once = last-once xs (isFramed w) (c .0) })
+    where
+      by : (b : Bool) → there v x ≡ b → AllWritable (fieldsThere v xs) → (there v x ≡ true → WritableBefore (what x) (fieldsThere v xs))
+          → AllWritable (pick b (what x ∷ fieldsThere v xs) (fieldsThere v xs))
+      by true t h f = (f t, h)
+      by false t h f = h
 
--- ---- the table: computed of all operations, their arguments can be written
-arguments-writable : map (λ (o : Operation). areWritable (map what (o .arguments))) operations ≡ map (λ (o : Operation). true) operations
-unfolding operations
-arguments-writable = refl
+-- ---- the table: computed of all operations in both modes, their arguments can be written
+arguments-writable : (m : Mode) → map (λ (o : Operation). areWritable (o .arguments)) (rowsIn m) ≡ map (λ (o : Operation). true) (rowsIn m)
+unfolding operations published
+arguments-writable Ported = refl
+arguments-writable Published = refl
 
-pub row-writable : (op : ℕ) (v : Version) (o : Operation) → find op ≡ row o → AllWritable (fieldsThere v (o .arguments))
+pub row-writable : (c : Context) (o : Operation) → chosen c ≡ row o → AllWritable (fieldsThere (c .spoken) (o .arguments))
 unfolding find
-row-writable op v o e = all-writable v (o .arguments) (found _ _ operations op o arguments-writable e .0)
+row-writable c o e = all-writable (c .spoken) (o .arguments) (found _ _ (rowsIn (c .mode)) (c .op) o (arguments-writable (c .mode)) e .0)

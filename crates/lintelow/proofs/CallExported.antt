@@ -17,9 +17,9 @@ use Rattle.layouts.specs.Pieces.{run}
 use Rattle.layouts.specs.Record.{blank}
 use Rattle.layouts.specs.Judge.{judgeOf, entriesOf, payloadOf, lentAfter}
 use Rattle.layouts.specs.Operations as O
-use Rattle.layouts.specs.Operations.{ArgumentsKind, argumentsNumber, Choice, none, only, byVersion, byFlag, byNumber, kindOf, Row, row, unknown, find}
+use Rattle.layouts.specs.Operations.{ArgumentsKind, argumentsNumber, Choice, none, only, byVersion, byFlag, byNumber, kindOf, Row, row, unknown}
 use Rattle.layouts.specs.Calls as L
-use Rattle.layouts.specs.Calls.{kindBy, argumentsKinds, argumentsTree, readOpArgs}
+use Rattle.layouts.specs.Calls.{Context, context, chosen, kindBy, argumentsKinds, argumentsTree, readOpArgs}
 use Rattle.layouts.specs.Writers.{writing}
 use Rattle.layouts.specs.Demands.{Bytes, Held}
 use Rattle.layouts.specs.CallWriter.{callBytes, writeOpArgs}
@@ -36,6 +36,7 @@ use Rattle.writers_output.proofs.Numbers.{bytes-length, bytes-join}
 use Rattle.walk_judge.specs.Judged.{answerAs}
 use Rattle.writers_calls.specs.Calls.{bytesOr, fifteen}
 use Rattle.protocol.proofs.Demands.{counted, totalled, roomy}
+use Rattle.lintelow_answers.specs.Answers.{modeOf}
 use Rattle.lintelow_answers.specs.Block.{numbersOf, guarded, numberOf, blockAfter, numberPut, blockPut}
 use Rattle.lintelow.proofs.writes.lintelow_write_op_args.Reads as write-op-args
 use Rattle.lintelow.proofs.writes.lintelow_write_op_args.Kinds as write-op-args-kinds
@@ -87,6 +88,8 @@ kind-number O.RegisterDrvOutput = omega arith
 kind-number O.QueryRealisation = omega arith
 kind-number O.QuerySubstitutablePathInfo = omega arith
 kind-number O.QuerySubstitutablePathInfos = omega arith
+kind-number O.QuerySubstitutablePairs = omega arith
+kind-number O.RegisterDrvOutputOld = omega arith
 
 pick-low : (b : Bool) (m n : ℕ) → m < 256 → n < 256 → pick b m n < 256
 pick-low true m n h g = h
@@ -104,33 +107,33 @@ unfolding kindOf
 kind-by v b (row o) = kind-low v b (o .argumentsKind)
 kind-by v b unknown = omega arith
 
-read-kind-low : (op : ℕ) (v : Version) (s : List ℕ) (slots room : ℕ) (y : L.Answer) → readOpArgs op v s slots room ≡ ok y → y .kind < 256
+read-kind-low : (call : Context) (s : List ℕ) (slots room : ℕ) (y : L.Answer) → readOpArgs call s slots room ≡ ok y → y .kind < 256
 unfolding readOpArgs
-read-kind-low op v s slots room y e =
-    let x = answer-of v (argumentsKinds op) (judgeOf s slots room blank (run (argumentsTree op v) s 0)) y e in
-    let k : kindOf v (x .0 .found .present) (argumentsKinds op) ≡ y .kind = let z = x .2 in cc in
-    let h = kind-by v (x .0 .found .present) (find op) in
+read-kind-low call s slots room y e =
+    let x = answer-of (call .spoken) (argumentsKinds call) (judgeOf s slots room blank (run (argumentsTree call) s 0)) y e in
+    let k : kindOf (call .spoken) (x .0 .found .present) (argumentsKinds call) ≡ y .kind = let z = x .2 in cc in
+    let h = kind-by (call .spoken) (x .0 .found .present) (chosen call) in
     rw k at h
 
 -- ---- what is written fits
-call-room : (op : ℕ) (v : Version) (ns bytes es p lent : List ℕ) (n : ℕ) → writeOpArgs op v ns bytes es p lent ≡ ok n → n ≤ length lent
+call-room : (call : Context) (ns bytes es p lent : List ℕ) (n : ℕ) → writeOpArgs call ns bytes es p lent ≡ ok n → n ≤ length lent
 unfolding writeOpArgs writing
-call-room op v ns bytes es p lent n q =
-    let a = onward-ok (callBytes op v ns bytes es p) (λ out. writing out lent) n q in
+call-room call ns bytes es p lent n q =
+    let a = onward-ok (callBytes call ns bytes es p) (λ out. writing out lent) n q in
     let b = pick-ok (leb (length (a .0)) (length lent)) outputFull 0 (ok (length (a .0))) n (a .2) in
     let z : length (a .0) ≡ n = let y = b .1 in cc in
     omega (arith, leb-true (length (a .0)) (length lent) (b .0))
 
 -- ---- what a read that succeeded tells in its block, and leaves in its rooms
-record ReadTells (op : ℕ) (v : Version) (s : List ℕ) (y : L.Answer) (r : ℕ) (after es' ps' : List ℕ) : Type 0 where
+record ReadTells (call : Context) (s : List ℕ) (y : L.Answer) (r : ℕ) (after es' ps' : List ℕ) : Type 0 where
   zero : r ≡ 0
   kind : kindTold after ≡ y .kind
   ends : endTold after ≡ y .ends
   entries : entriesTold after ≡ y .found .entries
   numbers : fifteenTold after ≡ fifteen (y .found)
   spare : List ℕ
-  views : entriesIn es' ≡ entriesOf (callPieces op v s) ++ spare
-  payload : take (payloadTold after) ps' ≡ payloadOf s (callPieces op v s)
+  views : entriesIn es' ≡ entriesOf (callPieces call s) ++ spare
+  payload : take (payloadTold after) ps' ≡ payloadOf s (callPieces call s)
 
 module _ (block after : List ℕ) (r : ℕ) (o : Result L.Answer) (p : r ≡ numberOf block (answerAs o)) (p' : after ≡ blockAfter block (answerAs o)) where
   -- 0 is returned: the block was long enough
@@ -178,27 +181,27 @@ module _ (block after : List ℕ) (r : ℕ) (o : Result L.Answer) (p : r ≡ num
       let l : length ns + 0 ≡ 15 = let z = small .0 in omega arith in
       sym (ap (λ (n : ℕ). numbersFrom n 64 after) l) ∙ f ∙ append-nil ns
 
-module _ (op : ℕ) (v : Version) (s es ps block after es' ps' : List ℕ) (r : ℕ) where
+module _ (call : Context) (s es ps block after es' ps' : List ℕ) (r : ℕ) where
   abbrev judged : Result L.Answer
-  judged = readOpArgs op v s (length es / 16) (length ps)
+  judged = readOpArgs call s (length es / 16) (length ps)
 
   read-tells : (p : r ≡ numberOf block (answerAs judged)) (p' : after ≡ blockAfter block (answerAs judged))
-      → es' ≡ lentAfter (guarded block judged) (bytesOf (entriesOf (callPieces op v s))) es → ps' ≡ lentAfter (guarded block judged) (payloadOf s (callPieces op v s)) ps
+      → es' ≡ lentAfter (guarded block judged) (bytesOf (entriesOf (callPieces call s))) es → ps' ≡ lentAfter (guarded block judged) (payloadOf s (callPieces call s)) ps
       → (y : L.Answer) → judged ≡ ok y → 200 ≤ length block → Fifteen (fifteen (y .found)) → Lendable s → Lendable es → Lendable ps
-      → ReadTells op v s y r after es' ps'
+      → ReadTells call s y r after es' ps'
   unfolding readOpArgs
   read-tells p p' q q' y e long small hs he hp =
-      let t = argumentsTree op v in
-      let k = argumentsKinds op in
-      let c = counted v k (length es / 16) (length ps) s t y e in
-      let m = totalled v k (length es / 16) (length ps) s t y e in
-      let f = roomy v k (length es / 16) (length ps) s t y e in
-      let w = read-within op v s (length es / 16) (length ps) y [] e in
-      let i = read-kind-low op v s (length es / 16) (length ps) y e in
-      let g = q ∙ ap (λ (o : Result L.Answer). lentAfter o (bytesOf (entriesOf (callPieces op v s))) es) (guarded-long block judged long ∙ e) in
-      let h = q' ∙ ap (λ (o : Result L.Answer). lentAfter o (payloadOf s (callPieces op v s)) ps) (guarded-long block judged long ∙ e) in
-      let x = entries-in (entriesOf (callPieces op v s)) (drop (length (bytesOf (entriesOf (callPieces op v s)))) es) (y .found .entries) c
-      (λ j. omega (arith, read-entries op v s (length es / 16) (length ps) y [] j)) in
+      let t = argumentsTree call in
+      let k = argumentsKinds call in
+      let c = counted (call .spoken) k (length es / 16) (length ps) s t y e in
+      let m = totalled (call .spoken) k (length es / 16) (length ps) s t y e in
+      let f = roomy (call .spoken) k (length es / 16) (length ps) s t y e in
+      let w = read-within call s (length es / 16) (length ps) y [] e in
+      let i = read-kind-low call s (length es / 16) (length ps) y e in
+      let g = q ∙ ap (λ (o : Result L.Answer). lentAfter o (bytesOf (entriesOf (callPieces call s))) es) (guarded-long block judged long ∙ e) in
+      let h = q' ∙ ap (λ (o : Result L.Answer). lentAfter o (payloadOf s (callPieces call s)) ps) (guarded-long block judged long ∙ e) in
+      let x = entries-in (entriesOf (callPieces call s)) (drop (length (bytesOf (entriesOf (callPieces call s)))) es) (y .found .entries) c
+      (λ j. omega (arith, read-entries call s (length es / 16) (length ps) y [] j)) in
       let n = called-at block after r judged p p' y e long 7 (omega arith) (omega arith) in
       record {
         zero = called-zero block after r judged p p' y e long;
@@ -208,141 +211,135 @@ module _ (op : ℕ) (v : Version) (s es ps block after es' ps' : List ℕ) (r : 
         numbers = fifteen-read block after r judged p p' y e long small;
         spare = x .0;
         views = ap entriesIn g ∙ x .1;
-        payload = ap (λ (j : ℕ). take j ps') n ∙ reported-is (y .found .payload) (payloadOf s (callPieces op v s)) _ ps' h m;
+        payload = ap (λ (j : ℕ). take j ps') n ∙ reported-is (y .found .payload) (payloadOf s (callPieces call s)) _ ps' h m;
       }
 
--- ---- a call of `lintelow_write_op_args`, and one of `lintelow_read_op_args`, of the same operation at the same version. Sixteen bytes make an entry
+-- ---- a call of `lintelow_write_op_args`, and one of `lintelow_read_op_args`, of the same operation at the same version in the same mode. Sixteen bytes make an entry
 module _ (κs : Lfts 6) (a : Dens κs write-op-args-kinds.ps) (w : ℕ) (x : AtExit (endedOf 6 write-op-args-kinds.ps write-op-args-kinds.r) κs) (p : write-op-args.Post κs a w x)
     (κs′ : Lfts 4) (a′ : Dens κs′ read-op-args-kinds.ps) (r : ℕ) (x′ : AtExit (endedOf 4 read-op-args-kinds.ps read-op-args-kinds.r) κs′) (q : read-op-args.Post κs′ a′ r x′) where
-  abbrev op : ℕ
-  op = a .0
-
-  abbrev spoken : Version
-  spoken = version (a .1 .0) (a .1 .1 .0)
+  abbrev asked : Context
+  asked = context (modeOf (a .0)) (a .1 .0) (version (a .1 .1 .0) (a .1 .1 .1 .0))
 
   -- the fifteen numbers of the record
   abbrev numbersGiven : List ℕ
-  numbersGiven = numbersFrom 15 0 (now (a .1 .1 .1 .0))
+  numbersGiven = numbersFrom 15 0 (now (a .1 .1 .1 .1 .0))
 
   abbrev bytesGiven : List ℕ
-  bytesGiven = now (a .1 .1 .1 .1 .0)
+  bytesGiven = now (a .1 .1 .1 .1 .1 .0)
 
   abbrev entriesGiven : List ℕ
-  entriesGiven = now (a .1 .1 .1 .1 .1 .0)
+  entriesGiven = now (a .1 .1 .1 .1 .1 .1 .0)
 
   abbrev payloadGiven : List ℕ
-  payloadGiven = now (a .1 .1 .1 .1 .1 .1 .0)
+  payloadGiven = now (a .1 .1 .1 .1 .1 .1 .1 .0)
 
   abbrev lent : List ℕ
-  lent = now (a .1 .1 .1 .1 .1 .1 .1 .0)
+  lent = now (a .1 .1 .1 .1 .1 .1 .1 .1 .0)
 
   abbrev output : List ℕ
-  output = now (x .1 .1 .1 .1 .1 .1 .1 .0)
+  output = now (x .1 .1 .1 .1 .1 .1 .1 .1 .0)
 
   -- the writer's block, lent and afterwards
   abbrev report : List ℕ
-  report = now (a .1 .1 .1 .1 .1 .1 .1 .1 .0)
+  report = now (a .1 .1 .1 .1 .1 .1 .1 .1 .1 .0)
 
   abbrev reported : List ℕ
-  reported = now (x .1 .1 .1 .1 .1 .1 .1 .1 .0)
+  reported = now (x .1 .1 .1 .1 .1 .1 .1 .1 .1 .0)
 
   -- the reader's
-  abbrev opRead : ℕ
-  opRead = a′ .0
-
-  abbrev spokenRead : Version
-  spokenRead = version (a′ .1 .0) (a′ .1 .1 .0)
+  abbrev askedRead : Context
+  askedRead = context (modeOf (a′ .0)) (a′ .1 .0) (version (a′ .1 .1 .0) (a′ .1 .1 .1 .0))
 
   abbrev stream : List ℕ
-  stream = now (a′ .1 .1 .1 .0)
+  stream = now (a′ .1 .1 .1 .1 .0)
 
   -- the rooms that are lent for entries and payload, and what they hold afterwards
   abbrev slots : List ℕ
-  slots = now (a′ .1 .1 .1 .1 .0)
+  slots = now (a′ .1 .1 .1 .1 .1 .0)
 
   abbrev room : List ℕ
-  room = now (a′ .1 .1 .1 .1 .1 .0)
+  room = now (a′ .1 .1 .1 .1 .1 .1 .0)
 
   abbrev entriesRead : List ℕ
-  entriesRead = now (x′ .1 .1 .1 .1 .0)
+  entriesRead = now (x′ .1 .1 .1 .1 .1 .0)
 
   abbrev payloadRead : List ℕ
-  payloadRead = now (x′ .1 .1 .1 .1 .1 .0)
+  payloadRead = now (x′ .1 .1 .1 .1 .1 .1 .0)
 
   -- the reader's block, lent and afterwards
   abbrev block : List ℕ
-  block = now (a′ .1 .1 .1 .1 .1 .1 .0)
+  block = now (a′ .1 .1 .1 .1 .1 .1 .1 .0)
 
   abbrev answer : List ℕ
-  answer = now (x′ .1 .1 .1 .1 .1 .1 .0)
+  answer = now (x′ .1 .1 .1 .1 .1 .1 .1 .0)
 
   -- the part of the reader's block that has the fifteen numbers serves as the record
-  pub part-of-block : now (a .1 .1 .1 .0) ≡ take 120 (drop 64 answer) → numbersGiven ≡ fifteenTold answer
+  pub part-of-block : now (a .1 .1 .1 .1 .0) ≡ take 120 (drop 64 answer) → numbersGiven ≡ fifteenTold answer
   part-of-block e = ap (numbersFrom 15 0) e ∙ from-part 15 0 64 120 answer (omega arith)
 
   -- what the writer answers, and its output
   abbrev wrote : Result ℕ
-  wrote = writeOpArgs op spoken numbersGiven bytesGiven (entriesIn entriesGiven) payloadGiven lent
+  wrote = writeOpArgs asked numbersGiven bytesGiven (entriesIn entriesGiven) payloadGiven lent
 
   abbrev written : List ℕ
-  written = bytesOr (callBytes op spoken numbersGiven bytesGiven (entriesIn entriesGiven) payloadGiven)
+  written = bytesOr (callBytes asked numbersGiven bytesGiven (entriesIn entriesGiven) payloadGiven)
 
   by-writer : WrittenBy report reported lent output written w wrote
   by-writer = (p .0, (p .1 .0, p .1 .1 .0))
 
-  module _ (sameOp : opRead ≡ op) (sameVersion : spokenRead ≡ spoken) where
-    tells : (y : L.Answer) → readOpArgs op spoken stream (length slots / 16) (length room) ≡ ok y → 200 ≤ length block → Fifteen (fifteen (y .found))
-        → Lendable stream → Lendable slots → Lendable room → ReadTells op spoken stream y r answer entriesRead payloadRead
+  module _ (agree : askedRead ≡ asked) where
+    tells : (y : L.Answer) → readOpArgs asked stream (length slots / 16) (length room) ≡ ok y → 200 ≤ length block → Fifteen (fifteen (y .found))
+        → Lendable stream → Lendable slots → Lendable room → ReadTells asked stream y r answer entriesRead payloadRead
     tells =
-        read-tells op spoken stream slots room block answer entriesRead payloadRead r (rw (sameOp, sameVersion) at (q .0)) (rw (sameOp, sameVersion) at (q .1 .0))
-        (rw (sameOp, sameVersion) at (q .1 .1 .0)) (rw (sameOp, sameVersion) at (q .1 .1 .1))
+        read-tells asked stream slots room block answer entriesRead payloadRead r (rw agree at (q .0)) (rw agree at (q .1 .0))
+        (rw agree at (q .1 .1 .0)) (rw agree at (q .1 .1 .1))
 
     -- a call written by us reads back the same:
     -- it was written, and the stream begins with it; with a slot for each string, room for the payload and a block, it reads as a call with a kind, to its end,
     -- and has the numbers, the strings and the payload that were written
-    pub call-read-back : w ≡ 0 → FewAndShort op spoken numbersGiven bytesGiven (entriesIn entriesGiven) (length slots / 16) → length payloadGiven ≤ length room
+    pub call-read-back : w ≡ 0 → FewAndShort asked numbersGiven bytesGiven (entriesIn entriesGiven) (length slots / 16) → length payloadGiven ≤ length room
         → Has stream 0 (endTold reported) output → 200 ≤ length block → Lendable stream → Lendable slots → Lendable room
         → (r ≡ 0) × (0 < kindTold answer) × (endTold answer ≡ endTold reported)
-        × SameCall op spoken numbersGiven bytesGiven (entriesIn entriesGiven) payloadGiven (fifteenTold answer) stream (entriesIn entriesRead) (entriesTold answer)
+        × SameCall asked numbersGiven bytesGiven (entriesIn entriesGiven) payloadGiven (fifteenTold answer) stream (entriesIn entriesRead) (entriesTold answer)
         (take (payloadTold answer) payloadRead)
     call-read-back done few fits has long hs he hp =
         let es = entriesIn entriesGiven in
-        let t = write-told report reported lent output written w wrote by-writer (call-numbered bytesGiven es op spoken numbersGiven payloadGiven lent) done in
+        let t = write-told report reported lent output written w wrote by-writer (call-numbered bytesGiven es asked numbersGiven payloadGiven lent) done in
         let n = t .1 in
         let size = p .1 .1 .1 .0 in
         let d = write-done report reported lent output written w wrote by-writer n (t .2) (t .0)
-        (omega (arith, call-room op spoken numbersGiven bytesGiven es payloadGiven lent n (t .2))) in
+        (omega (arith, call-room asked numbersGiven bytesGiven es payloadGiven lent n (t .2))) in
         let f = write-out report reported lent output written w wrote by-writer (t .0) in
-        let small : Fifteen numbersGiven = (from-length 15 0 (now (a .1 .1 .1 .0)), from-small 15 0 (now (a .1 .1 .1 .0)) (p .1 .1 .1 .1 .0)) in
-        let y = call-trip op spoken numbersGiven bytesGiven es payloadGiven lent output stream (length slots / 16) (length room) n (t .2) f (rw (d .1) at has) small few fits in
+        let small : Fifteen numbersGiven = (from-length 15 0 (now (a .1 .1 .1 .1 .0)), from-small 15 0 (now (a .1 .1 .1 .1 .0)) (p .1 .1 .1 .1 .0)) in
+        let y = call-trip asked numbersGiven bytesGiven es payloadGiven lent output stream (length slots / 16) (length room) n (t .2) f (rw (d .1) at has) small few fits in
         let b = y .back in
         let z = tells (b .answer) (b .reads) long (subst Fifteen (sym (b .same)) small) hs he hp in (
           z .zero,
           rw (z .kind) (b .kind),
           z .ends ∙ b .stops ∙ sym (d .1),
           rw (z .numbers, z .entries)
-              (same-call op spoken numbersGiven bytesGiven es payloadGiven stream (length slots / 16) (length room) n y (entriesIn entriesRead) _ (z .spare) (z .views) (z .payload)),
+              (same-call asked numbersGiven bytesGiven es payloadGiven stream (length slots / 16) (length room) n y (entriesIn entriesRead) _ (z .spare) (z .views) (z .payload)),
         )
 
     -- a call that reads, written again, gives the same bytes:
     -- it was read as a call with a kind, and is as we write calls; its own numbers, stream, entries and payload are written with room and a block, and the
     -- output begins with the call's own bytes
-    pub call-written-again : r ≡ 0 → 0 < kindTold answer → Held stream → Lendable slots → Lendable room → Ours stream (callPieces op spoken stream)
+    pub call-written-again : r ≡ 0 → 0 < kindTold answer → Held stream → Lendable slots → Lendable room → Ours stream (callPieces asked stream)
         → numbersGiven ≡ fifteenTold answer → bytesGiven ≡ stream → entriesGiven ≡ entriesRead → payloadGiven ≡ take (payloadTold answer) payloadRead
         → endTold answer ≤ length lent → 200 ≤ length report
         → OutputReported w reported output stream 0 (endTold answer)
     call-written-again done kind held he hp ours same bytes entries payload fits long =
-        let o = readOpArgs op spoken stream (length slots / 16) (length room) in
-        let q0 : r ≡ numberOf block (answerAs o) = rw (sameOp, sameVersion) at (q .0) in
-        let q1 : answer ≡ blockAfter block (answerAs o) = rw (sameOp, sameVersion) at (q .1 .0) in
+        let o = readOpArgs asked stream (length slots / 16) (length room) in
+        let q0 : r ≡ numberOf block (answerAs o) = rw agree at (q .0) in
+        let q1 : answer ≡ blockAfter block (answerAs o) = rw agree at (q .1 .0) in
         let h = block-long block answer r o q0 q1 done in
         let t = kind-read block answer r o q0 q1 h kind in
         let y = t .0 in
         let size = held .1 in
-        let z = tells y (t .1) h (read-fifteen op spoken stream (length slots / 16) (length room) y [] (held .0) (t .1)) (omega arith) he hp in
+        let z = tells y (t .1) h (read-fifteen asked stream (length slots / 16) (length room) y [] (held .0) (t .1)) (omega arith) he hp in
         let f = write-out report reported lent output written w wrote by-writer long in
-        let u = call-again op spoken stream (length slots / 16) (length room) y (held .0) (t .1) (rw (z .kind) at kind) ours numbersGiven bytesGiven (entriesIn entriesGiven) payloadGiven lent output
+        let u = call-again asked stream (length slots / 16) (length room) y (held .0) (t .1) (rw (z .kind) at kind) ours numbersGiven bytesGiven (entriesIn entriesGiven) payloadGiven lent output
         (z .spare) (same ∙ z .numbers) bytes (ap entriesIn entries ∙ z .views) (payload ∙ z .payload) (rw (z .ends) at fits) f in
         let d = write-done report reported lent output written w wrote by-writer (y .ends) (u .0) long
-        (omega (arith, read-within op spoken stream (length slots / 16) (length room) y [] (t .1))) in
+        (omega (arith, read-within asked stream (length slots / 16) (length room) y [] (t .1))) in
         (d .0, d .1 ∙ sym (z .ends), rw (z .ends) (u .1))

@@ -36,12 +36,14 @@ use Rattle.lintelow_answers.specs.Block.{numberOf, blockAfter}
 use Rattle.lintelow.specs.Calls.{Called, ReadCalled, readCalled, handshakeCalled, daemonCalled, setCalled, framedCalled}
 use Rattle.lintelow.specs.Demands.{endTold, end2Told, Lendable, Tells}
 use Rattle.lintelow.specs.Cut.{TellsCut}
-use Rattle.lintelow.proofs.Demands.{entriesAt, payloadAt, blockAt, skipBlock, roomOf, roomBlock, daemonRoom, daemonBlock}
+use Rattle.lintelow.proofs.Demands.{contextAt, entriesAt, payloadAt, blockAt, skipBlock, roomOf, roomBlock, daemonRoom, daemonBlock}
 use Rattle.lintelow.proofs.CutLaws.{Telling, exported-cut, exported-longer, Leaves, room-whole}
 use Rattle.lintelow.proofs.lintelow_read_op_args.Reads as read-op-args
+use Rattle.lintelow.proofs.lintelow_read_op_args.Kinds as read-op-args-kinds
 use Rattle.lintelow.proofs.lintelow_read_daemon_result.Reads as read-daemon-result
 use Rattle.lintelow.proofs.lintelow_read_daemon_result.Kinds as read-daemon-result-kinds
 use Rattle.lintelow.proofs.lintelow_skip_op_args.Reads as skip-op-args
+use Rattle.lintelow.proofs.lintelow_skip_op_args.Kinds as skip-op-args-kinds
 use Rattle.lintelow.proofs.lintelow_skip_daemon_result.Reads as skip-daemon-result
 use Rattle.lintelow.proofs.lintelow_skip_daemon_result.Kinds as skip-daemon-result-kinds
 use Rattle.lintelow.proofs.lintelow_parse_handshake.Reads as parse-handshake
@@ -79,84 +81,95 @@ string-tells = record { refuses = λ k which place stream. refl; long = λ k y. 
 result-tells : {K : Type 0} → Telling {K = K} 4 (λ e. e) (λ k o. answerAs (resultSkipped o))
 result-tells = record { refuses = λ k which place stream. refl; long = λ k y. omega arith; end = λ k y. refl }
 
--- ---- replies and arguments, read
-module _ (κs : Lfts 4) (a : Dens κs read-daemon-result-kinds.ps) (r : ℕ) (x : AtExit (endedOf 4 read-daemon-result-kinds.ps read-daemon-result-kinds.r) κs)
-    (κs′ : Lfts 4) (a′ : Dens κs′ read-daemon-result-kinds.ps) (r′ : ℕ) (x′ : AtExit (endedOf 4 read-daemon-result-kinds.ps read-daemon-result-kinds.r) κs′)
-    (o : opOf a′ ≡ opOf a) (v : versionOf a′ ≡ versionOf a) (es : entriesAt a′ ≡ entriesAt a) (ps : payloadAt a′ ≡ payloadAt a) (b : blockAt a′ ≡ blockAt a)
-    (zero : r ≡ 0) (fits : Lendable (streamOf a)) where
-  abbrev ReadWhole : Type 0
-  ReadWhole =
-      CutOrLonger (endTold (blockAt x)) (streamOf a) (streamOf a′)
-      (TellsCut 0 (blockAt a) r′ (blockAt x′) × ((entriesAt x′ ≡ entriesAt a′) × (payloadAt x′ ≡ payloadAt a′)))
-      (((r′ ≡ r) × (blockAt x′ ≡ blockAt x)) × ((entriesAt x′ ≡ entriesAt x) × (payloadAt x′ ≡ payloadAt x)))
+-- ---- replies and arguments, read: said by what chooses a tree, of the tree's pieces, stream and room
+abbrev ReadWhole : (r r′ : ℕ) → (s s′ block entries′ payload′ : List ℕ) → (after after′ entriesOut entriesOut′ payloadOut payloadOut′ : List ℕ) → Type 0
+ReadWhole r r′ s s′ block entries′ payload′ after after′ entriesOut entriesOut′ payloadOut payloadOut′ =
+    CutOrLonger (endTold after) s s′ (TellsCut 0 block r′ after′ × ((entriesOut′ ≡ entries′) × (payloadOut′ ≡ payload′)))
+    (((r′ ≡ r) × (after′ ≡ after)) × ((entriesOut′ ≡ entriesOut) × (payloadOut′ ≡ payloadOut)))
 
-  module _ (said : ℕ → Version → List ℕ → (slots room : ℕ) → Result L.Answer) (tree : ℕ → Version → Tree)
-      (w : (op : ℕ) (v : Version) (slots room : ℕ) → WholeOnly (λ s. said op v s slots room) (λ y. y .ends) 0 (seen (tree op v) 0))
-      (n : (s : List ℕ) (op : ℕ) (v : Version) (slots room : ℕ) → Numbered (said op v s slots room)) where
-    abbrev calledAs : (op : ℕ) → Version → (s entries payload block : List ℕ) → ReadCalled
-    calledAs op v s entries payload block =
-        readCalled block (said op v s (length entries / 16) (length payload)) (bytesOf (entriesOf (run (tree op v) s 0))) (payloadOf s (run (tree op v) s 0)) entries payload
+module _ {K : Type 0} (said : K → List ℕ → (slots room : ℕ) → Result L.Answer) (tree : K → Tree)
+    (w : (k : K) (slots room : ℕ) → WholeOnly (λ s. said k s slots room) (λ y. y .ends) 0 (seen (tree k) 0)) (n : (s : List ℕ) (k : K) (slots room : ℕ) → Numbered (said k s slots room)) where
+  abbrev calledAs : K → (s entries payload block : List ℕ) → ReadCalled
+  calledAs k s entries payload block =
+      readCalled block (said k s (length entries / 16) (length payload)) (bytesOf (entriesOf (run (tree k) s 0))) (payloadOf s (run (tree k) s 0)) entries payload
 
-    same-call : calledAs (opOf a′) (versionOf a′) (streamOf a′) (entriesAt a′) (payloadAt a′) (blockAt a′) ≡ calledAs (opOf a) (versionOf a) (streamOf a′) (entriesAt a) (payloadAt a) (blockAt a)
-    same-call = same-as (λ op u. calledAs op u (streamOf a′) (entriesAt a′) (payloadAt a′) (blockAt a′)) o v
-        ∙ ap (λ (l : List ℕ). calledAs (opOf a) (versionOf a) (streamOf a′) l (payloadAt a′) (blockAt a′)) es
-        ∙ ap (λ (l : List ℕ). calledAs (opOf a) (versionOf a) (streamOf a′) (entriesAt a) l (blockAt a′)) ps
-        ∙ ap (calledAs (opOf a) (versionOf a) (streamOf a′) (entriesAt a) (payloadAt a)) b
+  abbrev Contract : (number : ℕ) → (block entries payload : List ℕ) → ReadCalled → Type 0
+  Contract number block entries payload c = (number ≡ c .number) × ((block ≡ c .block) × ((entries ≡ c .entries) × (payload ≡ c .payload)))
 
-    abbrev Contract : (number : ℕ) → (block entries payload : List ℕ) → ReadCalled → Type 0
-    Contract number block entries payload c = (number ≡ c .number) × ((block ≡ c .block) × ((entries ≡ c .entries) × (payload ≡ c .payload)))
+  module _ (k k′ : K) (same : k′ ≡ k) (s s′ entries entries′ payload payload′ block block′ : List ℕ) (es : entries′ ≡ entries) (ps : payload′ ≡ payload) (b : block′ ≡ block) where
+    same-call : calledAs k′ s′ entries′ payload′ block′ ≡ calledAs k s′ entries payload block
+    same-call = ap (λ (c : K). calledAs c s′ entries′ payload′ block′) same ∙ ap (λ (l : List ℕ). calledAs k s′ l payload′ block′) es
+        ∙ ap (λ (l : List ℕ). calledAs k s′ entries l block′) ps ∙ ap (calledAs k s′ entries payload) b
 
-    read-whole : Contract r (blockAt x) (entriesAt x) (payloadAt x) (calledAs (opOf a) (versionOf a) (streamOf a) (entriesAt a) (payloadAt a) (blockAt a))
-        → Contract r′ (blockAt x′) (entriesAt x′) (payloadAt x′) (calledAs (opOf a′) (versionOf a′) (streamOf a′) (entriesAt a′) (payloadAt a′) (blockAt a′)) → ReadWhole
-    read-whole p q =
-        let u = w (opOf a) (versionOf a) (length (entriesAt a) / 16) (length (payloadAt a)) in
-        let m : (s : List ℕ) → Numbered (said (opOf a) (versionOf a) s (length (entriesAt a) / 16) (length (payloadAt a))) = λ s. n s (opOf a) (versionOf a) _ _ in
+    read-whole : (r r′ : ℕ) (after after′ eo eo′ po po′ : List ℕ) → r ≡ 0 → Lendable s → Contract r after eo po (calledAs k s entries payload block)
+        → Contract r′ after′ eo′ po′ (calledAs k′ s′ entries′ payload′ block′) → ReadWhole r r′ s s′ block entries′ payload′ after after′ eo eo′ po po′
+    read-whole r r′ after after′ eo eo′ po po′ zero fits p q =
+        let u = w k (length entries / 16) (length payload) in
+        let m : (s : List ℕ) → Numbered (said k s (length entries / 16) (length payload)) = λ s. n s k _ _ in
         let number = q .0 ∙ ap (λ (c : ReadCalled). c .number) same-call in
-        let block = q .1 .0 ∙ ap (λ (c : ReadCalled). c .block) same-call in
-        let entries = room-whole u m answerAs answer-tells (λ y. bytesOf (entriesOf (y .0))) (blockAt a) (entriesAt a) (entriesAt a′) (streamOf a) (streamOf a′) r r′ (blockAt x) (blockAt x′)
-        (entriesAt x) (entriesAt x′) (p .0, (p .1 .0, p .1 .1 .0)) (number, (block, q .1 .1 .0 ∙ ap (λ (c : ReadCalled). c .entries) same-call)) es zero fits in
-        let payload = room-whole u m answerAs answer-tells (λ y. y .1) (blockAt a) (payloadAt a) (payloadAt a′) (streamOf a) (streamOf a′) r r′ (blockAt x) (blockAt x′)
-        (payloadAt x) (payloadAt x′) (p .0, (p .1 .0, p .1 .1 .1)) (number, (block, q .1 .1 .1 ∙ ap (λ (c : ReadCalled). c .payload) same-call)) ps zero fits in
-        (λ c. (entries .0 c .0, (entries .0 c .1, payload .0 c .1)), λ c. (entries .1 c .0, (entries .1 c .1, payload .1 c .1)))
+        let told = q .1 .0 ∙ ap (λ (c : ReadCalled). c .block) same-call in
+        let e = room-whole u m answerAs answer-tells (λ y. bytesOf (entriesOf (y .0))) block entries entries′ s s′ r r′ after after′ eo eo′ (p .0, (p .1 .0, p .1 .1 .0))
+        (number, (told, q .1 .1 .0 ∙ ap (λ (c : ReadCalled). c .entries) same-call)) es zero fits in
+        let d = room-whole u m answerAs answer-tells (λ y. y .1) block payload payload′ s s′ r r′ after after′ po po′ (p .0, (p .1 .0, p .1 .1 .1))
+        (number, (told, q .1 .1 .1 ∙ ap (λ (c : ReadCalled). c .payload) same-call)) ps zero fits in
+        (λ c. (e .0 c .0, (e .0 c .1, d .0 c .1)), λ c. (e .1 c .0, (e .1 c .1, d .1 c .1)))
 
-  pub read-daemon-result-whole : read-daemon-result.Post κs a r x → read-daemon-result.Post κs′ a′ r′ x′ → ReadWhole
-  read-daemon-result-whole p q = read-whole readDaemonResult replyTree W.read-reply-whole read-reply-numbered p q
+pub read-daemon-result-whole : (κs : Lfts 4) (a : Dens κs read-daemon-result-kinds.ps) (r : ℕ) (x : AtExit (endedOf 4 read-daemon-result-kinds.ps read-daemon-result-kinds.r) κs)
+    (κs′ : Lfts 4) (a′ : Dens κs′ read-daemon-result-kinds.ps) (r′ : ℕ) (x′ : AtExit (endedOf 4 read-daemon-result-kinds.ps read-daemon-result-kinds.r) κs′)
+    → opOf a′ ≡ opOf a → versionOf a′ ≡ versionOf a → entriesAt a′ ≡ entriesAt a → payloadAt a′ ≡ payloadAt a → blockAt a′ ≡ blockAt a → r ≡ 0 → Lendable (streamOf a)
+    → read-daemon-result.Post κs a r x → read-daemon-result.Post κs′ a′ r′ x′
+    → ReadWhole r r′ (streamOf a) (streamOf a′) (blockAt a) (entriesAt a′) (payloadAt a′) (blockAt x) (blockAt x′) (entriesAt x) (entriesAt x′) (payloadAt x) (payloadAt x′)
+read-daemon-result-whole κs a r x κs′ a′ r′ x′ o v es ps b zero fits p q =
+    read-whole {K = ℕ × Version} (λ k. readDaemonResult (k .0) (k .1)) (λ k. replyTree (k .0) (k .1)) (λ k. W.read-reply-whole (k .0) (k .1))
+    (λ s k. read-reply-numbered s (k .0) (k .1)) (opOf a, versionOf a) (opOf a′, versionOf a′) (same-as (λ op u. (op, u)) o v) (streamOf a) (streamOf a′) _ _ _ _ _ _ es ps b r r′
+    (blockAt x) (blockAt x′) (entriesAt x) (entriesAt x′) (payloadAt x) (payloadAt x′) zero fits p q
 
-  pub read-op-args-whole : read-op-args.Post κs a r x → read-op-args.Post κs′ a′ r′ x′ → ReadWhole
-  read-op-args-whole p q = read-whole readOpArgs argumentsTree W.read-arguments-whole read-arguments-numbered p q
+pub read-op-args-whole : (κs : Lfts 4) (a : Dens κs read-op-args-kinds.ps) (r : ℕ) (x : AtExit (endedOf 4 read-op-args-kinds.ps read-op-args-kinds.r) κs)
+    (κs′ : Lfts 4) (a′ : Dens κs′ read-op-args-kinds.ps) (r′ : ℕ) (x′ : AtExit (endedOf 4 read-op-args-kinds.ps read-op-args-kinds.r) κs′)
+    → contextAt a′ ≡ contextAt a → entriesAt (a′ .1) ≡ entriesAt (a .1) → payloadAt (a′ .1) ≡ payloadAt (a .1) → blockAt (a′ .1) ≡ blockAt (a .1) → r ≡ 0 → Lendable (streamOf (a .1))
+    → read-op-args.Post κs a r x → read-op-args.Post κs′ a′ r′ x′
+    → ReadWhole r r′ (streamOf (a .1)) (streamOf (a′ .1)) (blockAt (a .1)) (entriesAt (a′ .1)) (payloadAt (a′ .1)) (blockAt (x .1)) (blockAt (x′ .1)) (entriesAt (x .1))
+    (entriesAt (x′ .1)) (payloadAt (x .1)) (payloadAt (x′ .1))
+read-op-args-whole κs a r x κs′ a′ r′ x′ same es ps b zero fits p q =
+    read-whole readOpArgs argumentsTree W.read-arguments-whole read-arguments-numbered (contextAt a) (contextAt a′) same (streamOf (a .1)) (streamOf (a′ .1)) _ _ _ _ _ _ es ps b r r′
+    (blockAt (x .1)) (blockAt (x′ .1)) (entriesAt (x .1)) (entriesAt (x′ .1)) (payloadAt (x .1)) (payloadAt (x′ .1)) zero fits p q
 
 -- ---- skipped
-module _ (κs : Lfts 2) (a : Dens κs skip-daemon-result-kinds.ps) (r : ℕ) (x : AtExit (endedOf 2 skip-daemon-result-kinds.ps skip-daemon-result-kinds.r) κs)
-    (κs′ : Lfts 2) (a′ : Dens κs′ skip-daemon-result-kinds.ps) (r′ : ℕ) (x′ : AtExit (endedOf 2 skip-daemon-result-kinds.ps skip-daemon-result-kinds.r) κs′)
-    (o : opOf a′ ≡ opOf a) (v : versionOf a′ ≡ versionOf a) (b : skipBlock a′ ≡ skipBlock a) (zero : r ≡ 0) (fits : Lendable (streamOf a)) where
-  abbrev SkipWhole : Type 0
-  SkipWhole = CutOrLonger (endTold (skipBlock x)) (streamOf a) (streamOf a′) (TellsCut 0 (skipBlock a) r′ (skipBlock x′)) ((r′ ≡ r) × (skipBlock x′ ≡ skipBlock x))
+abbrev SkipWhole : (r r′ : ℕ) → (s s′ block after after′ : List ℕ) → Type 0
+SkipWhole r r′ s s′ block after after′ = CutOrLonger (endTold after) s s′ (TellsCut 0 block r′ after′) ((r′ ≡ r) × (after′ ≡ after))
 
-  skip-whole : {A K : Type 0} (said : ℕ → Version → List ℕ → Result A) (keeps : ℕ → Version → List ℕ → K) (ends : A → ℕ) (f : K → Result A → Answer) → Telling 4 ends f
-      → WholeOnly (said (opOf a) (versionOf a)) ends 0 (keeps (opOf a) (versionOf a)) → ((s : List ℕ) → Numbered (said (opOf a) (versionOf a) s))
-      → Tells (f (keeps (opOf a) (versionOf a) (streamOf a)) (said (opOf a) (versionOf a) (streamOf a))) (skipBlock a) r (skipBlock x)
-      → Tells (f (keeps (opOf a′) (versionOf a′) (streamOf a′)) (said (opOf a′) (versionOf a′) (streamOf a′))) (skipBlock a′) r′ (skipBlock x′) → SkipWhole
-  skip-whole said keeps ends f t w n p q =
-      let answer : ℕ → Version → Answer = λ op u. f (keeps op u (streamOf a′)) (said op u (streamOf a′)) in
-      let same = same-as answer o v in
-      let tells : Tells (answer (opOf a) (versionOf a)) (skipBlock a) r′ (skipBlock x′) = (
-        q .0 ∙ ap (λ (l : List ℕ). numberOf l (answer (opOf a′) (versionOf a′))) b ∙ ap (numberOf (skipBlock a)) same,
-        q .1 ∙ ap (λ (l : List ℕ). blockAfter l (answer (opOf a′) (versionOf a′))) b ∙ ap (blockAfter (skipBlock a)) same,
+module _ {A K P : Type 0} (said : K → List ℕ → Result A) (keeps : K → List ℕ → P) (ends : A → ℕ) (f : P → Result A → Answer) (t : Telling 4 ends f) where
+  skip-whole : (k k′ : K) → k′ ≡ k → (s s′ block block′ : List ℕ) → block′ ≡ block → (r r′ : ℕ) (after after′ : List ℕ) → r ≡ 0 → Lendable s
+      → WholeOnly (said k) ends 0 (keeps k) → ((s : List ℕ) → Numbered (said k s)) → Tells (f (keeps k s) (said k s)) block r after
+      → Tells (f (keeps k′ s′) (said k′ s′)) block′ r′ after′ → SkipWhole r r′ s s′ block after after′
+  skip-whole k k′ same s s′ block block′ b r r′ after after′ zero fits w n p q =
+      let answer : K → Answer = λ c. f (keeps c s′) (said c s′) in
+      let e = ap answer same in
+      let tells : Tells (answer k) block r′ after′ = (
+        q .0 ∙ ap (λ (l : List ℕ). numberOf l (answer k′)) b ∙ ap (numberOf block) e,
+        q .1 ∙ ap (λ (l : List ℕ). blockAfter l (answer k′)) b ∙ ap (blockAfter block) e,
       ) in (
-        λ c. exported-cut w n f t (skipBlock a) (streamOf a) (streamOf a′) r r′ (skipBlock x) (skipBlock x′) p tells zero fits c .0,
-        λ c. exported-longer w n f t (skipBlock a) (streamOf a) (streamOf a′) r r′ (skipBlock x) (skipBlock x′) p tells zero fits c .0,
+        λ c. exported-cut w n f t block s s′ r r′ after after′ p tells zero fits c .0,
+        λ c. exported-longer w n f t block s s′ r r′ after after′ p tells zero fits c .0,
       )
 
-  pub skip-daemon-result-whole : skip-daemon-result.Post κs a r x → skip-daemon-result.Post κs′ a′ r′ x′ → SkipWhole
-  skip-daemon-result-whole p q =
-      skip-whole skipDaemonResult (λ op u s. run (replyTree op u) s 0) (λ e. e) (λ k o. answerAs (resultSkipped o)) result-tells (W.skip-reply-whole (opOf a) (versionOf a))
-      (λ s. skip-reply-numbered s (opOf a) (versionOf a)) p q
+pub skip-daemon-result-whole : (κs : Lfts 2) (a : Dens κs skip-daemon-result-kinds.ps) (r : ℕ) (x : AtExit (endedOf 2 skip-daemon-result-kinds.ps skip-daemon-result-kinds.r) κs)
+    (κs′ : Lfts 2) (a′ : Dens κs′ skip-daemon-result-kinds.ps) (r′ : ℕ) (x′ : AtExit (endedOf 2 skip-daemon-result-kinds.ps skip-daemon-result-kinds.r) κs′)
+    → opOf a′ ≡ opOf a → versionOf a′ ≡ versionOf a → skipBlock a′ ≡ skipBlock a → r ≡ 0 → Lendable (streamOf a) → skip-daemon-result.Post κs a r x
+    → skip-daemon-result.Post κs′ a′ r′ x′ → SkipWhole r r′ (streamOf a) (streamOf a′) (skipBlock a) (skipBlock x) (skipBlock x′)
+skip-daemon-result-whole κs a r x κs′ a′ r′ x′ o v b zero fits p q =
+    skip-whole {K = ℕ × Version} (λ k. skipDaemonResult (k .0) (k .1)) (λ k s. run (replyTree (k .0) (k .1)) s 0) (λ e. e) (λ k o. answerAs (resultSkipped o)) result-tells
+    (opOf a, versionOf a) (opOf a′, versionOf a′) (same-as (λ op u. (op, u)) o v) (streamOf a) (streamOf a′) _ _ b r r′ (skipBlock x) (skipBlock x′) zero fits
+    (W.skip-reply-whole (opOf a) (versionOf a)) (λ s. skip-reply-numbered s (opOf a) (versionOf a)) p q
 
-  pub skip-op-args-whole : skip-op-args.Post κs a r x → skip-op-args.Post κs′ a′ r′ x′ → SkipWhole
-  skip-op-args-whole p q =
-      skip-whole skipOpArgs (λ op u. seen (skippedTree op u) 0) (λ y. y .ends) (λ k o. answerAs (stringSkipped o (entriesOf (k .0))))
-      (record { refuses = λ k which place stream. refl; long = λ k y. omega arith; end = λ k y. refl }) (W.skip-arguments-whole (opOf a) (versionOf a))
-      (λ s. skip-arguments-numbered s (opOf a) (versionOf a)) p q
+pub skip-op-args-whole : (κs : Lfts 2) (a : Dens κs skip-op-args-kinds.ps) (r : ℕ) (x : AtExit (endedOf 2 skip-op-args-kinds.ps skip-op-args-kinds.r) κs)
+    (κs′ : Lfts 2) (a′ : Dens κs′ skip-op-args-kinds.ps) (r′ : ℕ) (x′ : AtExit (endedOf 2 skip-op-args-kinds.ps skip-op-args-kinds.r) κs′)
+    → contextAt a′ ≡ contextAt a → skipBlock (a′ .1) ≡ skipBlock (a .1) → r ≡ 0 → Lendable (streamOf (a .1)) → skip-op-args.Post κs a r x → skip-op-args.Post κs′ a′ r′ x′
+    → SkipWhole r r′ (streamOf (a .1)) (streamOf (a′ .1)) (skipBlock (a .1)) (skipBlock (x .1)) (skipBlock (x′ .1))
+skip-op-args-whole κs a r x κs′ a′ r′ x′ same b zero fits p q =
+    skip-whole skipOpArgs (λ c. seen (skippedTree c) 0) (λ y. y .ends) (λ k o. answerAs (stringSkipped o (entriesOf (k .0))))
+    (record { refuses = λ k which place stream. refl; long = λ k y. omega arith; end = λ k y. refl }) (contextAt a) (contextAt a′) same (streamOf (a .1)) (streamOf (a′ .1)) _ _ b r r′
+    (skipBlock (x .1)) (skipBlock (x′ .1)) zero fits (W.skip-arguments-whole (contextAt a)) (λ s. skip-arguments-numbered s (contextAt a)) p q
 
 -- ---- one field, at the same place, without room
 module _ (κs : Lfts 2) (a : Dens κs read-u64-kinds.ps) (r : ℕ) (x : AtExit (endedOf 2 read-u64-kinds.ps read-u64-kinds.r) κs)

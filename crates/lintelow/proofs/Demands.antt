@@ -17,7 +17,7 @@ use Rattle.layouts.specs.Judge.{Ended, entriesOf, payloadOf, lentAfter}
 use Rattle.layouts.specs.Writers.{entryStart, entryLength, viewOf}
 use Rattle.layouts.specs.Operations.{Kinds}
 use Rattle.layouts.specs.Calls as L
-use Rattle.layouts.specs.Calls.{argumentsKinds, replyKinds, argumentsTree, replyTree, readOf, readOpArgs, readDaemonResult, skipDaemonResult, field, readStringSet, readFramed}
+use Rattle.layouts.specs.Calls.{Context, context, argumentsKinds, replyKinds, argumentsTree, replyTree, readOf, readOpArgs, readDaemonResult, skipDaemonResult, field, readStringSet, readFramed}
 use Rattle.layouts.specs.Stderr.{stderrLoop, errorPieces, readStderrWithError}
 use Rattle.layouts.specs.Handshake.{hear, heardEntries, handshake, daemonHandshake, parseHandshake, parseDaemonHandshake}
 use Rattle.layouts.specs.Soft.{Softened, keptOf, unlessBad}
@@ -35,11 +35,11 @@ use Rattle.walk_judge.specs.Judged.{answerAs}
 use Rattle.wire.specs.Answers.{setEntries, framedPayload}
 use Rattle.wire.proofs.Sets.{set-fits}
 use Rattle.wire.proofs.Frames.{frames-total}
-use Rattle.protocol.proofs.Demands.{opOf, versionOf, streamOf, replyIn, counted, totalled, roomy, same-as}
+use Rattle.protocol.proofs.Demands.{Lent, opOf, versionOf, streamOf, replyIn, counted, totalled, roomy, same-as}
 use Rattle.stderr.proofs.Block.{with-error-fits}
 use Rattle.stderr.proofs.Demands.{error-counted}
 use Rattle.handshake.proofs.Room.{handshake-counted, daemon-counted}
-use Rattle.lintelow_answers.specs.Answers.{ended}
+use Rattle.lintelow_answers.specs.Answers.{modeOf, ended}
 use Rattle.lintelow_answers.specs.Skips.{resultSkipped}
 use Rattle.lintelow_answers.specs.Block.{guarded, numberOf, blockAfter}
 use Rattle.lintelow.specs.Demands.{endTold, entriesTold, payloadTold, Lendable, Tells}
@@ -76,6 +76,10 @@ module _ {A B C D E : Type 0} where
   -- the skipper's
   abbrev pub skipBlock : A × (B × (C × (D × (RefT (List ℕ) × E)))) → List ℕ
   skipBlock a = now (a .1 .1 .1 .1 .0)
+
+-- the calls on arguments have a mode before all that
+abbrev pub contextAt : {A : Type 0} → ℕ × Lent A → Context
+contextAt a = context (modeOf (a .0)) (opOf (a .1)) (versionOf (a .1))
 
 -- the other calls: one room, and the block behind it. Before it stand the stream; both streams, or a stream and a place; a version and a stream
 module _ {A B : Type 0} where
@@ -125,19 +129,19 @@ module _ (v : Version) (k : Kinds) (s : List ℕ) (t : Tree) (block es ps : List
 -- lintelow_read_op_args
 module _ (κs : Lfts 4) (a : Dens κs read-op-args-kinds.ps) (r : ℕ) (x : AtExit (endedOf 4 read-op-args-kinds.ps read-op-args-kinds.r) κs)
     (p : read-op-args.Post κs a r x) where
-  pub arguments-refused : 0 < r → (entriesAt x ≡ entriesAt a) × (payloadAt x ≡ payloadAt a)
+  pub arguments-refused : 0 < r → (entriesAt (x .1) ≡ entriesAt (a .1)) × (payloadAt (x .1) ≡ payloadAt (a .1))
   unfolding readOpArgs
   arguments-refused =
-      rooms-kept (versionOf a) (argumentsKinds (opOf a)) (streamOf a) (argumentsTree (opOf a) (versionOf a)) (blockAt a) (entriesAt a) (payloadAt a) r
-      (blockAt x) (entriesAt x) (payloadAt x) (p .0, p .1 .0) (p .1 .1 .0) (p .1 .1 .1)
+      rooms-kept (versionOf (a .1)) (argumentsKinds (contextAt a)) (streamOf (a .1)) (argumentsTree (contextAt a)) (blockAt (a .1)) (entriesAt (a .1)) (payloadAt (a .1)) r
+      (blockAt (x .1)) (entriesAt (x .1)) (payloadAt (x .1)) (p .0, p .1 .0) (p .1 .1 .0) (p .1 .1 .1)
 
-  pub arguments-written : Lendable (entriesAt a) → Lendable (payloadAt a)
-      → (drop (16 * entriesTold (blockAt x)) (entriesAt x) ≡ drop (16 * entriesTold (blockAt x)) (entriesAt a)) ×
-      (drop (payloadTold (blockAt x)) (payloadAt x) ≡ drop (payloadTold (blockAt x)) (payloadAt a))
+  pub arguments-written : Lendable (entriesAt (a .1)) → Lendable (payloadAt (a .1))
+      → (drop (16 * entriesTold (blockAt (x .1))) (entriesAt (x .1)) ≡ drop (16 * entriesTold (blockAt (x .1))) (entriesAt (a .1))) ×
+      (drop (payloadTold (blockAt (x .1))) (payloadAt (x .1)) ≡ drop (payloadTold (blockAt (x .1))) (payloadAt (a .1)))
   unfolding readOpArgs
   arguments-written =
-      rooms-only (versionOf a) (argumentsKinds (opOf a)) (streamOf a) (argumentsTree (opOf a) (versionOf a)) (blockAt a) (entriesAt a) (payloadAt a) r
-      (blockAt x) (entriesAt x) (payloadAt x) (p .0, p .1 .0) (p .1 .1 .0) (p .1 .1 .1)
+      rooms-only (versionOf (a .1)) (argumentsKinds (contextAt a)) (streamOf (a .1)) (argumentsTree (contextAt a)) (blockAt (a .1)) (entriesAt (a .1)) (payloadAt (a .1)) r
+      (blockAt (x .1)) (entriesAt (x .1)) (payloadAt (x .1)) (p .0, p .1 .0) (p .1 .1 .0) (p .1 .1 .1)
 
 -- lintelow_read_daemon_result
 module _ (κs : Lfts 4) (a : Dens κs read-daemon-result-kinds.ps) (r : ℕ) (x : AtExit (endedOf 4 read-daemon-result-kinds.ps read-daemon-result-kinds.r) κs)

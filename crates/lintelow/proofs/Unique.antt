@@ -23,7 +23,7 @@ use Rattle.lintelow.proofs.lintelow_parse_daemon_handshake.Reads as par
 use Rattle.lintelow.proofs.lintelow_parse_daemon_handshake.Kinds as parse-daemon-handshake-kinds
 
 pub read-op-args-unique : (κs : Lfts 4) (a : Dens κs read-op-args-kinds.ps) (r r′ : ℕ) (x x′ : AtExit (endedOf 4 read-op-args-kinds.ps read-op-args-kinds.r) κs)
-    → read-op-args.Post κs a r x → read-op-args.Post κs a r′ x′ → (r ≡ r′) × (now (x .1 .1 .1 .1 .1 .1 .0) ≡ now (x′ .1 .1 .1 .1 .1 .1 .0)) × (now (x .1 .1 .1 .1 .0) ≡ now (x′ .1 .1 .1 .1 .0)) × (now (x .1 .1 .1 .1 .1 .0) ≡ now (x′ .1 .1 .1 .1 .1 .0))
+    → read-op-args.Post κs a r x → read-op-args.Post κs a r′ x′ → (r ≡ r′) × (now (x .1 .1 .1 .1 .1 .1 .1 .0) ≡ now (x′ .1 .1 .1 .1 .1 .1 .1 .0)) × (now (x .1 .1 .1 .1 .1 .0) ≡ now (x′ .1 .1 .1 .1 .1 .0)) × (now (x .1 .1 .1 .1 .1 .1 .0) ≡ now (x′ .1 .1 .1 .1 .1 .1 .0))
 read-op-args-unique κs a r r′ x x′ p q = (p .0 ∙ sym (q .0), p .1 .0 ∙ sym (q .1 .0), p .1 .1 .0 ∙ sym (q .1 .1 .0), p .1 .1 .1 ∙ sym (q .1 .1 .1))
 
 pub read-daemon-result-unique : (κs : Lfts 4) (a : Dens κs read-daemon-result-kinds.ps) (r r′ : ℕ) (x x′ : AtExit (endedOf 4 read-daemon-result-kinds.ps read-daemon-result-kinds.r) κs)
@@ -31,7 +31,7 @@ pub read-daemon-result-unique : (κs : Lfts 4) (a : Dens κs read-daemon-result-
 read-daemon-result-unique κs a r r′ x x′ p q = (p .0 ∙ sym (q .0), p .1 .0 ∙ sym (q .1 .0), p .1 .1 .0 ∙ sym (q .1 .1 .0), p .1 .1 .1 ∙ sym (q .1 .1 .1))
 
 pub skip-op-args-unique : (κs : Lfts 2) (a : Dens κs skip-op-args-kinds.ps) (r r′ : ℕ) (x x′ : AtExit (endedOf 2 skip-op-args-kinds.ps skip-op-args-kinds.r) κs)
-    → skip-op-args.Post κs a r x → skip-op-args.Post κs a r′ x′ → (r ≡ r′) × (now (x .1 .1 .1 .1 .0) ≡ now (x′ .1 .1 .1 .1 .0))
+    → skip-op-args.Post κs a r x → skip-op-args.Post κs a r′ x′ → (r ≡ r′) × (now (x .1 .1 .1 .1 .1 .0) ≡ now (x′ .1 .1 .1 .1 .1 .0))
 skip-op-args-unique κs a r r′ x x′ p q = (p .0 ∙ sym (q .0), p .1 ∙ sym (q .1))
 
 pub skip-daemon-result-unique : (κs : Lfts 2) (a : Dens κs skip-daemon-result-kinds.ps) (r r′ : ℕ) (x x′ : AtExit (endedOf 2 skip-daemon-result-kinds.ps skip-daemon-result-kinds.r) κs)

@@ -63,5 +63,5 @@ pub write-overrides-unique : (κs : Lfts 2) (a : Dens κs write-overrides-kinds.
 write-overrides-unique κs a r r′ x x′ p q = (p .0 ∙ sym (q .0), p .1 .0 ∙ sym (q .1 .0), p .1 .1 ∙ sym (q .1 .1))
 
 pub write-op-args-unique : (κs : Lfts 6) (a : Dens κs write-op-args-kinds.ps) (r r′ : ℕ) (x x′ : AtExit (endedOf 6 write-op-args-kinds.ps write-op-args-kinds.r) κs)
-    → write-op-args.Post κs a r x → write-op-args.Post κs a r′ x′ → (r ≡ r′) × (now (x .1 .1 .1 .1 .1 .1 .1 .1 .0) ≡ now (x′ .1 .1 .1 .1 .1 .1 .1 .1 .0)) × (now (x .1 .1 .1 .1 .1 .1 .1 .0) ≡ now (x′ .1 .1 .1 .1 .1 .1 .1 .0))
+    → write-op-args.Post κs a r x → write-op-args.Post κs a r′ x′ → (r ≡ r′) × (now (x .1 .1 .1 .1 .1 .1 .1 .1 .1 .0) ≡ now (x′ .1 .1 .1 .1 .1 .1 .1 .1 .1 .0)) × (now (x .1 .1 .1 .1 .1 .1 .1 .1 .0) ≡ now (x′ .1 .1 .1 .1 .1 .1 .1 .1 .0))
 write-op-args-unique κs a r r′ x x′ p q = (p .0 ∙ sym (q .0), p .1 .0 ∙ sym (q .1 .0), p .1 .1 .0 ∙ sym (q .1 .1 .0))

@@ -7,7 +7,7 @@ use Rattle.layouts.specs.Pieces.{run}
 use Rattle.layouts.specs.Record.{blank}
 use Rattle.layouts.specs.Judge.{entriesOf, payloadOf, lentAfter}
 use Rattle.layouts.specs.Calls as L
-use Rattle.layouts.specs.Calls.{argumentsTree, skippedTree, replyTree, readOpArgs, readDaemonResult, skipOpArgs, readStringSet, readFramed}
+use Rattle.layouts.specs.Calls.{Context, argumentsTree, skippedTree, replyTree, readOpArgs, readDaemonResult, skipOpArgs, readStringSet, readFramed}
 use Rattle.layouts.specs.Stderr.{stderrLoop, readStderrWithError, errorPieces}
 use Rattle.layouts.specs.Handshake.{hear, heardEntries, handshake, daemonHandshake, parseHandshake, parseDaemonHandshake}
 use Rattle.layouts.specs.Writers.{textsOf, writeStringSet, outputOf}
@@ -48,10 +48,10 @@ readCalled block o es ps entries payload =
     }
 
 -- ---- the calls. Sixteen bytes make a slot
-abbrev pub argumentsCalled : (op : ℕ) → Version → (s entries payload block : List ℕ) → ReadCalled
-argumentsCalled op v s entries payload block =
-    readCalled block (readOpArgs op v s (length entries / 16) (length payload))
-    (bytesOf (entriesOf (run (argumentsTree op v) s 0))) (payloadOf s (run (argumentsTree op v) s 0)) entries payload
+abbrev pub argumentsCalled : Context → (s entries payload block : List ℕ) → ReadCalled
+argumentsCalled c s entries payload block =
+    readCalled block (readOpArgs c s (length entries / 16) (length payload))
+    (bytesOf (entriesOf (run (argumentsTree c) s 0))) (payloadOf s (run (argumentsTree c) s 0)) entries payload
 
 abbrev pub replyCalled : (op : ℕ) → Version → (s entries payload block : List ℕ) → ReadCalled
 replyCalled op v s entries payload block =
@@ -59,8 +59,8 @@ replyCalled op v s entries payload block =
     (bytesOf (entriesOf (run (replyTree op v) s 0))) (payloadOf s (run (replyTree op v) s 0)) entries payload
 
 -- arguments that are skipped: no room is lent, and the one string stands in the block
-abbrev pub argumentsSkipped : (op : ℕ) → Version → List ℕ → Answer
-argumentsSkipped op v s = answerAs (stringSkipped (skipOpArgs op v s) (entriesOf (run (skippedTree op v) s 0)))
+abbrev pub argumentsSkipped : Context → List ℕ → Answer
+argumentsSkipped c s = answerAs (stringSkipped (skipOpArgs c s) (entriesOf (run (skippedTree c) s 0)))
 
 abbrev pub errorCalled : (s entries block : List ℕ) → Called
 errorCalled s entries block = called block answerAs (readStderrWithError s (length entries / 16)) (bytesOf (entriesOf (errorPieces s (stderrLoop s)))) entries
@@ -84,7 +84,7 @@ setWritten bytes entries count out block =
     called block (λ o. answerAs (written o)) (writeStringSet bytes (entriesIn entries) count out) (outputOf (textsOf bytes (entriesIn entries) count)) out
 
 -- the fifteen numbers of a record as they stand in a block; bytes that it lacks are 0
-abbrev pub callWritten : (op : ℕ) → Version → (numbers bytes entries payload out block : List ℕ) → Called
-callWritten op v numbers bytes entries payload out block =
-    called block (λ o. answerAs (written o)) (writeOpArgs op v (numbersFrom 15 0 numbers) bytes (entriesIn entries) payload out)
-    (bytesOr (callBytes op v (numbersFrom 15 0 numbers) bytes (entriesIn entries) payload)) out
+abbrev pub callWritten : Context → (numbers bytes entries payload out block : List ℕ) → Called
+callWritten c numbers bytes entries payload out block =
+    called block (λ o. answerAs (written o)) (writeOpArgs c (numbersFrom 15 0 numbers) bytes (entriesIn entries) payload out)
+    (bytesOr (callBytes c (numbersFrom 15 0 numbers) bytes (entriesIn entries) payload)) out

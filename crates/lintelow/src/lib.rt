@@ -2,9 +2,10 @@
 // refused before all else: `lintelow_answers::put` refuses it, and a call that lends other room looks before it reads.
 ghost use mathlib.Core.Path.{_≡_};
 ghost use Rattle.layouts.specs.Primitive.{version};
-ghost use Rattle.layouts.specs.Calls.{skipDaemonResult};
+ghost use Rattle.layouts.specs.Calls.{context, skipDaemonResult};
 ghost use Rattle.layouts.specs.Stderr.{readStderrLoop};
 ghost use Rattle.walk_judge.specs.Judged.{answerAs};
+ghost use Rattle.lintelow_answers.specs.Answers.{modeOf};
 ghost use Rattle.lintelow_answers.specs.Skips.{resultSkipped};
 ghost use Rattle.lintelow_answers.specs.Block.{numberOf, blockAfter};
 ghost use Rattle.lintelow.specs.Calls.{argumentsCalled, replyCalled, argumentsSkipped, errorCalled, handshakeCalled, daemonCalled};
@@ -14,6 +15,7 @@ pub mod writes;
 
 #[no_mangle]
 pub extern "C" fn lintelow_read_op_args(
+    mode: u8,
     op: u64,
     major: u16,
     minor: u8,
@@ -22,10 +24,10 @@ pub extern "C" fn lintelow_read_op_args(
     payload: &mut [u8],
     block: &mut [u8],
 ) -> u64
-    ensures number { λ r. ⌜ r ≡ argumentsCalled op (version major minor) (now (s .entry)) (now (entries .entry)) (now (payload .entry)) (now (block .entry)) .number ⌝ }
-    ensures block { λ r. ⌜ now (block .exit) ≡ argumentsCalled op (version major minor) (now (s .entry)) (now (entries .entry)) (now (payload .entry)) (now (block .entry)) .block ⌝ }
-    ensures entries { λ r. ⌜ now (entries .exit) ≡ argumentsCalled op (version major minor) (now (s .entry)) (now (entries .entry)) (now (payload .entry)) (now (block .entry)) .entries ⌝ }
-    ensures payload { λ r. ⌜ now (payload .exit) ≡ argumentsCalled op (version major minor) (now (s .entry)) (now (entries .entry)) (now (payload .entry)) (now (block .entry)) .payload ⌝ }
+    ensures number { λ r. ⌜ r ≡ argumentsCalled (context (modeOf mode) op (version major minor)) (now (s .entry)) (now (entries .entry)) (now (payload .entry)) (now (block .entry)) .number ⌝ }
+    ensures block { λ r. ⌜ now (block .exit) ≡ argumentsCalled (context (modeOf mode) op (version major minor)) (now (s .entry)) (now (entries .entry)) (now (payload .entry)) (now (block .entry)) .block ⌝ }
+    ensures entries { λ r. ⌜ now (entries .exit) ≡ argumentsCalled (context (modeOf mode) op (version major minor)) (now (s .entry)) (now (entries .entry)) (now (payload .entry)) (now (block .entry)) .entries ⌝ }
+    ensures payload { λ r. ⌜ now (payload .exit) ≡ argumentsCalled (context (modeOf mode) op (version major minor)) (now (s .entry)) (now (entries .entry)) (now (payload .entry)) (now (block .entry)) .payload ⌝ }
 {
     if block.len() < lintelow_answers::BLOCK {
         return layouts::OUTPUT_FULL;
@@ -33,6 +35,7 @@ pub extern "C" fn lintelow_read_op_args(
     let mut numbers = [0u64; 12];
     let mut counts = [0u64; 3];
     let said = protocol::read_op_args_bytes(
+        lintelow_answers::mode(mode),
         op,
         major,
         minor,
@@ -81,16 +84,17 @@ pub extern "C" fn lintelow_read_daemon_result(
 // No room is lent: start and length of the one string are numbers 1 and 2 of the block's twelve.
 #[no_mangle]
 pub extern "C" fn lintelow_skip_op_args(
+    mode: u8,
     op: u64,
     major: u16,
     minor: u8,
     s: &[u8],
     block: &mut [u8],
 ) -> u64
-    ensures number { λ r. ⌜ r ≡ numberOf (now (block .entry)) (argumentsSkipped op (version major minor) (now (s .entry))) ⌝ }
-    ensures block { λ r. ⌜ now (block .exit) ≡ blockAfter (now (block .entry)) (argumentsSkipped op (version major minor) (now (s .entry))) ⌝ }
+    ensures number { λ r. ⌜ r ≡ numberOf (now (block .entry)) (argumentsSkipped (context (modeOf mode) op (version major minor)) (now (s .entry))) ⌝ }
+    ensures block { λ r. ⌜ now (block .exit) ≡ blockAfter (now (block .entry)) (argumentsSkipped (context (modeOf mode) op (version major minor)) (now (s .entry))) ⌝ }
 {
-    let passed = lintelow_answers::skip_op_args(op, major, minor, s);
+    let passed = lintelow_answers::skip_op_args(lintelow_answers::mode(mode), op, major, minor, s);
     lintelow_answers::put(block, passed)
 }
 

@@ -4,10 +4,11 @@ ghost use Prim.Native.Nat.{_<_};
 ghost use lib.ListN.{length};
 ghost use Rattle.layouts.specs.Primitive.{version, littleEnd, numberBytes};
 ghost use Rattle.layouts.specs.Judge.{lentAfter};
+ghost use Rattle.layouts.specs.Calls.{context};
 ghost use Rattle.layouts.specs.Demands.{Held};
 ghost use Rattle.layouts.specs.Writers.{writing, stringBytes, framedBytes, modeText, pathsText, overridesText, writeString};
 ghost use Rattle.walk_judge.specs.Judged.{answerAs};
-ghost use Rattle.lintelow_answers.specs.Answers.{written};
+ghost use Rattle.lintelow_answers.specs.Answers.{modeOf, written};
 ghost use Rattle.lintelow_answers.specs.Block.{guarded, numberOf, blockAfter};
 ghost use Rattle.lintelow.specs.Calls.{setWritten, callWritten};
 
@@ -138,6 +139,7 @@ pub extern "C" fn lintelow_write_overrides(out: &mut [u8], n: u64, block: &mut [
 // The output stands behind what is read, other than in the writers above.
 #[no_mangle]
 pub extern "C" fn lintelow_write_op_args(
+    mode: u8,
     op: u64,
     major: u16,
     minor: u8,
@@ -149,11 +151,11 @@ pub extern "C" fn lintelow_write_op_args(
     block: &mut [u8],
 ) -> u64
     ensures number { λ r. ⌜ r
-        ≡ callWritten op (version major minor) (now («record» .entry)) (now (bytes .entry)) (now (entries .entry)) (now (payload .entry)) (now (out .entry)) (now (block .entry)) .number ⌝ }
+        ≡ callWritten (context (modeOf mode) op (version major minor)) (now («record» .entry)) (now (bytes .entry)) (now (entries .entry)) (now (payload .entry)) (now (out .entry)) (now (block .entry)) .number ⌝ }
     ensures block { λ r. ⌜ now (block .exit)
-        ≡ callWritten op (version major minor) (now («record» .entry)) (now (bytes .entry)) (now (entries .entry)) (now (payload .entry)) (now (out .entry)) (now (block .entry)) .block ⌝ }
+        ≡ callWritten (context (modeOf mode) op (version major minor)) (now («record» .entry)) (now (bytes .entry)) (now (entries .entry)) (now (payload .entry)) (now (out .entry)) (now (block .entry)) .block ⌝ }
     ensures out { λ r. ⌜ now (out .exit)
-        ≡ callWritten op (version major minor) (now («record» .entry)) (now (bytes .entry)) (now (entries .entry)) (now (payload .entry)) (now (out .entry)) (now (block .entry)) .room ⌝ }
+        ≡ callWritten (context (modeOf mode) op (version major minor)) (now («record» .entry)) (now (bytes .entry)) (now (entries .entry)) (now (payload .entry)) (now (out .entry)) (now (block .entry)) .room ⌝ }
     ensures size { λ r. ⌜ length (now (out .entry)) < 9223372036854775808 ⌝ }
     ensures held { λ r. ⌜ Held (now («record» .entry)) ⌝ }
 {
@@ -161,6 +163,7 @@ pub extern "C" fn lintelow_write_op_args(
         return layouts::OUTPUT_FULL;
     }
     let r = writers_calls::write_op_args_bytes(
+        lintelow_answers::mode(mode),
         op,
         major,
         minor,

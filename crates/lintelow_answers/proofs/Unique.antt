@@ -8,6 +8,7 @@ use Prim.Native.Nat.{ℕ}
 use mathlib.Core.List.{_∷_}
 use lib.ListN.{replicate}
 use denote.Ref.{now}
+use Rattle.layouts.specs.declared.Mode.{Mode}
 use Rattle.layouts.specs.Primitive.{refused}
 use Rattle.walk_judge.specs.Judged.{answerAs}
 use Rattle.lintelow_answers.specs.Block.{numbersOf}
@@ -37,6 +38,8 @@ use Rattle.lintelow_answers.proofs.put.Reads as put
 use Rattle.lintelow_answers.proofs.put.Kinds as put-kinds
 use Rattle.lintelow_answers.proofs.put_said.Reads as put-said
 use Rattle.lintelow_answers.proofs.put_said.Kinds as put-said-kinds
+use Rattle.lintelow_answers.proofs.mode.Reads as mode
+use Rattle.lintelow_answers.proofs.mode.Kinds as mode-kinds
 use Rattle.lintelow_answers.proofs.skip_op_args.Reads as skip-op-args
 use Rattle.lintelow_answers.proofs.skip_op_args.Kinds as skip-op-args-kinds
 use Rattle.lintelow_answers.proofs.skip_daemon_result.Reads as skip-daemon-result
@@ -97,6 +100,10 @@ put-unique κs a r r′ x x′ p q = (p .0 ∙ sym (q .0), p .1 ∙ sym (q .1))
 pub put-said-unique : (κs : Lfts 1) (a : Dens κs put-said-kinds.ps) (r r′ : ℕ) (x x′ : AtExit (endedOf 1 put-said-kinds.ps put-said-kinds.r) κs)
     → put-said.Post κs a r x → put-said.Post κs a r′ x′ → (r ≡ r′) × (now (x .0) ≡ now (x′ .0))
 put-said-unique κs a r r′ x x′ p q = (p .0 ∙ sym (q .0), p .1 ∙ sym (q .1))
+
+pub mode-unique : (κs : Lfts 0) (a : Dens κs mode-kinds.ps) (r r′ : Mode) (x x′ : AtExit (endedOf 0 mode-kinds.ps mode-kinds.r) κs)
+    → mode.Post κs a r x → mode.Post κs a r′ x′ → r ≡ r′
+mode-unique κs a r r′ x x′ p q = p ∙ sym q
 
 pub skip-op-args-unique : (κs : Lfts 1) (a : Dens κs skip-op-args-kinds.ps) (r r′ : Answer) (x x′ : AtExit (endedOf 1 skip-op-args-kinds.ps skip-op-args-kinds.r) κs)
     → skip-op-args.Post κs a r x → skip-op-args.Post κs a r′ x′ → r ≡ r′

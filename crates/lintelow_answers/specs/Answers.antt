@@ -3,6 +3,9 @@ use Prim.Native.Nat.{ℕ}
 use mathlib.Core.List.{List, _∷_}
 use mathlib.Core.Bool.{Bool, false}
 use lib.ListN.{replicate}
+use lib.Dec.{eqb}
+use Rattle.layouts.specs.declared.Mode.{Mode}
+use Rattle.layouts.specs.declared.Mode.the-variants.{Ported, Published}
 use Rattle.layouts.specs.declared.Record.{Record}
 use Rattle.layouts.specs.Primitive.{pick, Version, Result, ok, onward}
 use Rattle.layouts.specs.Pieces.{Num, value, short}
@@ -13,6 +16,10 @@ use Rattle.pieces.specs.Pieces.{Span}
 use Rattle.entries.specs.Entries.{placeOf}
 use Rattle.table_operations.specs.declared.Framed.{Framed}
 use Rattle.table_operations.specs.Framed as Ops
+
+-- 0 is ported, any other number published
+abbrev pub modeOf : ℕ → Mode
+modeOf n = pick (eqb n 0) Ported Published
 
 abbrev pub answer : (kind ends : ℕ) → Record → Answer
 answer kind ends found = record { kind = kind; ends = ends; ends2 = 0; found = found }

@@ -6,7 +6,7 @@ ghost use Rattle.wire.specs.Answers.{numberRead, countRead, totalRead, peeked, 
 ghost use Rattle.writers_output.specs.Answer.{meaning};
 ghost use Rattle.versions.specs.Handshake.{versionOf};
 ghost use Rattle.entries.specs.Entries.{found};
-ghost use Rattle.lintelow_answers.specs.Answers.{answer, numbered, ended, passedTo, stringRead, peekedAt, written, yesNo, entryTold, framedSaid, versionTold};
+ghost use Rattle.lintelow_answers.specs.Answers.{modeOf, answer, numbered, ended, passedTo, stringRead, peekedAt, written, yesNo, entryTold, framedSaid, versionTold};
 ghost use Prim.Native.Nat.{_*_, _≤_};
 ghost use lib.ListN.{length};
 ghost use Rattle.writers_output.specs.Numbers.{bytesOf};
@@ -15,9 +15,10 @@ ghost use Rattle.lintelow_answers.specs.Block.{refusalOf, headOf, blockO
 ghost use lib.Dec.{eqb};
 ghost use Rattle.layouts.specs.Pieces.{run};
 ghost use Rattle.layouts.specs.Judge.{entriesOf};
-ghost use Rattle.layouts.specs.Calls.{skippedTree, skipOpArgs, skipDaemonResult};
+ghost use Rattle.layouts.specs.Calls.{context, skippedTree, skipOpArgs, skipDaemonResult};
 ghost use Rattle.lintelow_answers.specs.Skips.{stringSkipped, resultSkipped};
 use entries::Located;
+use layouts::Mode;
 use layouts::Record;
 use table_operations::Framed;
 use versions::ProtocolVersion;
@@ -30,6 +31,16 @@ use wire::Read;
 use wire::Skipped;
 use wire::Spanned;
 use writers_output::Written;
+
+// A mode by its number: 0 is ported, any other published, as a flag is read.
+pub fn mode(number: u8) -> Mode
+    ensures { λ r. ⌜ r ≡ modeOf number ⌝ }
+{
+    if number == 0 {
+        return Mode::Ported;
+    }
+    Mode::Published
+}
 
 fn fine(kind: u64, ends: usize, a: u64, b: u64, c: u64, entries: usize, payload: usize) -> Answer
     ensures { λ r. ⌜ r ≡ answerAs (ok (answer kind ends (numbered a b c entries payload))) ⌝ }
@@ -306,10 +317,10 @@ fn entries_of(kind: u64) -> usize
 }
 
 // The count is number 0; start and length of the one string are numbers 1 and 2.
-pub fn skip_op_args(op: u64, major: u16, minor: u8, s: &[u8]) -> Answer
-    ensures { λ r. ⌜ r ≡ answerAs (stringSkipped (skipOpArgs op (version major minor) (now (s .entry))) (entriesOf (run (skippedTree op (version major minor)) (now (s .entry)) 0))) ⌝ }
+pub fn skip_op_args(mode: Mode, op: u64, major: u16, minor: u8, s: &[u8]) -> Answer
+    ensures { λ r. ⌜ r ≡ answerAs (stringSkipped (skipOpArgs (context mode op (version major minor)) (now (s .entry))) (entriesOf (run (skippedTree (context mode op (version major minor))) (now (s .entry)) 0))) ⌝ }
 {
-    let a = protocol::skip_op_args(op, major, minor, s);
+    let a = protocol::skip_op_args(mode, op, major, minor, s);
     let o = a.outcome;
     let entries = entries_of(a.kind);
     let numbers = [a.count, a.start, a.len, 0, 0, 0, 0, 0, 0, 0, 0, 0];

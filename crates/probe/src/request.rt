@@ -21,12 +21,12 @@ pub enum Asked {
 
 fn of_head(head: &[u8]) -> Request {
     Request {
-        call: Call {
-            number: lent::number(head, 0),
-            operation: lent::number(head, 8),
-            major: (lent::number(head, 16) % 65536) as u16,
-            minor: (lent::number(head, 24) % 256) as u8,
-        },
+        call: probe_by_number::asked(
+            lent::number(head, 0),
+            lent::number(head, 8),
+            (lent::number(head, 16) % 65536) as u16,
+            (lent::number(head, 24) % 256) as u8,
+        ),
         slots: lent::number(head, 32) as usize,
         room: lent::number(head, 40) as usize,
         a: lent::number(head, 48) as usize,

@@ -16,20 +16,44 @@ const RECORD: usize = 120;
 
 // `operation` is also the number that a call takes.
 pub struct Call {
+    pub mode: u8,
     pub number: u64,
     pub operation: u64,
     pub major: u16,
     pub minor: u8,
 }
 
+// Calls from this number on, and as many, are those below it in published mode.
+const PUBLISHED: u64 = 64;
+
+pub fn asked(number: u64, operation: u64, major: u16, minor: u8) -> Call {
+    if number / PUBLISHED == 1 {
+        return Call {
+            mode: 1,
+            number: number % PUBLISHED,
+            operation,
+            major,
+            minor,
+        };
+    }
+    Call {
+        mode: 0,
+        number,
+        operation,
+        major,
+        minor,
+    }
+}
+
 fn operation(c: Call, a: &[u8], entries: &mut [u8], room: &mut [u8], block: &mut [u8]) -> u64 {
     let number = c.number;
+    let mode = c.mode;
     let op = c.operation;
     let major = c.major;
     let minor = c.minor;
     match number {
-        1 => lintelow::lintelow_read_op_args(op, major, minor, a, entries, room, block),
-        2 => lintelow::lintelow_skip_op_args(op, major, minor, a, block),
+        1 => lintelow::lintelow_read_op_args(mode, op, major, minor, a, entries, room, block),
+        2 => lintelow::lintelow_skip_op_args(mode, op, major, minor, a, block),
         3 => lintelow::lintelow_read_daemon_result(op, major, minor, a, entries, room, block),
         _ => lintelow::lintelow_skip_daemon_result(op, major, minor, a, block),
     }
@@ -94,6 +118,7 @@ fn call_writer(c: Call, a: &[u8], b: &[u8], room: &mut [u8], block: &mut [u8]) -
     let n = lent::number(rest, 0) as usize;
     let strings = lent::behind(rest, 8);
     writes::lintelow_write_op_args(
+        c.mode,
         c.operation,
         c.major,
         c.minor,

@@ -1,6 +1,8 @@
 // Reads and skips the arguments and the reply of every operation number from 0 to 48 at versions 1.9 to 1.38, 0.255, 2.0 and 65535.255, over two streams:
-// one of zeros (empty strings and sets, false flags), and one whose every number is 1. Each line says from which version on the answer is what. Then the
-// stderr loop and both handshakes, with entries in memory of numbers: each line ends with all that was lent, sevens before the call.
+// one of zeros (empty strings and sets, false flags), and one whose every number is 1; then the arguments that published mode has otherwise. Each line says from
+// which version on the answer is what. Then the stderr loop and both handshakes, with entries in memory of numbers: each line ends with all that was lent, sevens
+// before the call.
+use layouts::Mode;
 use protocol::Arguments;
 use walk_judge::Answer;
 use walk_judge::Outcome;
@@ -103,12 +105,20 @@ fn skipped_reply(k: Passed) -> Seen {
     }
 }
 
-fn see(call: u8, op: u64, v: Version, s: &[u8]) -> Seen {
+fn see(mode: Mode, call: u8, op: u64, v: Version, s: &[u8]) -> Seen {
     let mut entries = [0u64; 32];
     let mut payload = [0u8; 32];
     match call {
-        0 => answered(protocol::read_op_args(op, v.major, v.minor, s, &mut entries, &mut payload)),
-        1 => skipped_arguments(protocol::skip_op_args(op, v.major, v.minor, s)),
+        0 => answered(protocol::read_op_args(
+            mode,
+            op,
+            v.major,
+            v.minor,
+            s,
+            &mut entries,
+            &mut payload,
+        )),
+        1 => skipped_arguments(protocol::skip_op_args(mode, op, v.major, v.minor, s)),
         2 => answered(protocol::read_daemon_result(
             op,
             v.major,
@@ -162,14 +172,14 @@ fn name(call: u8) {
 }
 
 // One call of an operation at all versions.
-fn line(call: u8, op: u64, s: &[u8]) {
+fn line(mode: Mode, call: u8, op: u64, s: &[u8]) {
     number(op);
     name(call);
     let mut last = refused(0, 0);
     let mut i: usize = 0;
     while i < 33 {
         let v = version_at(i);
-        let x = see(call, op, v, s);
+        let x = see(mode, call, op, v, s);
         if (i == 0) | !same(x, last) {
             show(v, x);
         }
@@ -182,12 +192,20 @@ fn line(call: u8, op: u64, s: &[u8]) {
 fn operations(s: &[u8]) {
     let mut op: u64 = 0;
     while op <= 48 {
-        line(0, op, s);
-        line(1, op, s);
-        line(2, op, s);
-        line(3, op, s);
+        line(Mode::Ported, 0, op, s);
+        line(Mode::Ported, 1, op, s);
+        line(Mode::Ported, 2, op, s);
+        line(Mode::Ported, 3, op, s);
         op = op + 1;
     }
+}
+
+// The arguments that published mode has otherwise.
+fn published(s: &[u8]) {
+    line(Mode::Published, 0, 30, s);
+    line(Mode::Published, 1, 30, s);
+    line(Mode::Published, 0, 42, s);
+    line(Mode::Published, 1, 42, s);
 }
 
 fn byte_of_one(i: usize) -> u8 {
@@ -285,10 +303,10 @@ fn conversations() {
 // in a feature of each side.
 fn bad_bytes() {
     let s = b"\x05\0\0\0\0\0\0\0a\xC3\xA9\xFFb\0\0\0";
-    line(0, 1, s);
-    line(1, 1, s);
-    line(2, 18, s);
-    line(3, 18, s);
+    line(Mode::Ported, 0, 1, s);
+    line(Mode::Ported, 1, 1, s);
+    line(Mode::Ported, 2, 18, s);
+    line(Mode::Ported, 3, 18, s);
     stopped(
         b"ptxc\0\0\0\0\x05\0\0\0\0\0\0\0Error\0\0\0\x01\0\0\0\0\0\0\0\0\0\0\0\0\0\0\0\x06\0\0\0\0\0\0\0damp\xE2\x82\0\0\0\0\0\0\0\0\0\0",
     );
@@ -302,9 +320,13 @@ fn main() {
     say(b"zeros\n");
     let mut s = [0u8; 256];
     operations(&s);
+    say(b"zeros in published mode\n");
+    published(&s);
     say(b"ones\n");
     ones(&mut s);
     operations(&s);
+    say(b"ones in published mode\n");
+    published(&s);
     say(b"conversations\n");
     conversations();
     say(b"bad bytes\n");

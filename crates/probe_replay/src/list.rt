@@ -73,12 +73,12 @@ pub fn next(s: &[u8], at: usize) -> Request {
     let b = behind(s, a);
     let said = behind(s, b);
     Request {
-        call: Call {
-            number: number(s, at),
-            operation: number(s, operation),
-            major: (number(s, major) % 65536) as u16,
-            minor: (number(s, minor) % 256) as u8,
-        },
+        call: probe_by_number::asked(
+            number(s, at),
+            number(s, operation),
+            (number(s, major) % 65536) as u16,
+            (number(s, minor) % 256) as u8,
+        ),
         slots: number(s, slots) as usize,
         room: number(s, room) as usize,
         a,

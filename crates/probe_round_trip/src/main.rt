@@ -1,6 +1,7 @@
 // Writes strings, a set, framed data and calls, reads them back, and says what came back. A string of 268,435,456 bytes does not fit in a test's memory;
 // the theorems speak of it, and here a string of 1 MiB is run.
 ghost use Prim.Native.Nat.{_≤_};
+use layouts::Mode;
 use layouts::Record;
 use layouts::Refusal;
 use walk_judge::Answer;
@@ -262,10 +263,11 @@ fn record(first: u64, second: u64, count: u64) -> Record {
 }
 
 // Written, and read back.
-fn call(words: &[u8], op: u64, minor: u8, record: Record, payload: &[u8]) {
+fn call_in(mode: Mode, words: &[u8], op: u64, minor: u8, record: Record, payload: &[u8]) {
     say(words);
     let mut out = [0u8; CALL];
     let w = writers_calls::write_op_args(
+        mode,
         op,
         1,
         minor,
@@ -278,19 +280,19 @@ fn call(words: &[u8], op: u64, minor: u8, record: Record, payload: &[u8]) {
     match w {
         Written::Length(_) => {
             written(w);
-            call_back(op, minor, &out);
+            call_back(mode, op, minor, &out);
         }
         Written::Refused(r) => refused(r),
     }
 }
 
-fn call_back(op: u64, minor: u8, out: &[u8]) {
+fn call_back(mode: Mode, op: u64, minor: u8, out: &[u8]) {
     let mut found = [0u64; 8];
     let mut room = [0u8; 8];
-    let a = protocol::read_op_args(op, 1, minor, out, &mut found, &mut room);
+    let a = protocol::read_op_args(mode, op, 1, minor, out, &mut found, &mut room);
     let o = a.outcome;
     match o {
-        Outcome::Fine => call_again(op, minor, a, out, &found, &room),
+        Outcome::Fine => call_again(mode, op, minor, a, out, &found, &room),
         Outcome::Refused(r) => refused(r),
     }
 }
@@ -304,13 +306,14 @@ fn first(s: &[u8], n: usize) -> &[u8] {
 }
 
 // What was read, written again from the stream and its entries.
-fn call_again(op: u64, minor: u8, a: Answer, out: &[u8], found: &[u64], room: &[u8]) {
+fn call_again(mode: Mode, op: u64, minor: u8, a: Answer, out: &[u8], found: &[u64], room: &[u8]) {
     let record = a.found;
     tell(b"kind ", a.kind);
     tell(b"ends ", a.ends as u64);
     tell(b"strings ", record.entries as u64);
     let mut again = [0u8; CALL];
     written(writers_calls::write_op_args(
+        mode,
         op,
         1,
         minor,
@@ -321,6 +324,14 @@ fn call_again(op: u64, minor: u8, a: Answer, out: &[u8], found: &[u64], room: &[
         &mut again,
     ));
     compared(out, &again);
+}
+
+fn call(words: &[u8], op: u64, minor: u8, record: Record, payload: &[u8]) {
+    call_in(Mode::Ported, words, op, minor, record, payload);
+}
+
+fn published(words: &[u8], op: u64, minor: u8, count: u64) {
+    call_in(Mode::Published, words, op, minor, record(0, 0, count), b"");
 }
 
 fn calls() {
@@ -334,6 +345,20 @@ fn calls() {
     call(b"AddToStore at 1.24: ", 7, 24, record(1, 0, 1), b"ab");
     call(b"a flag at 1.26: ", 31, 26, record(1, 0, 2), b"");
     call(b"too few entries: ", 37, 38, record(0, 0, 3), b"");
+    published(
+        b"QuerySubstitutablePathInfos, published, at 1.21: ",
+        30,
+        21,
+        1,
+    );
+    published(
+        b"QuerySubstitutablePathInfos, published, at 1.22: ",
+        30,
+        22,
+        1,
+    );
+    published(b"RegisterDrvOutput, published, at 1.30: ", 42, 30, 0);
+    published(b"RegisterDrvOutput, published, at 1.31: ", 42, 31, 0);
 }
 
 fn line(s: &[u8], n: usize) {

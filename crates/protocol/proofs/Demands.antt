@@ -8,6 +8,7 @@ use contract.Lifetimes.{Lfts}
 use borrow.Fn.Kinds.{Dens, endedOf}
 use denote.Triple.Clauses.{AtExit}
 use denote.Ref.{RefT, now}
+use Rattle.layouts.specs.declared.Mode.{Mode}
 use Rattle.layouts.specs.declared.Record.{Record}
 use Rattle.layouts.specs.declared.Refusal.{Refusal}
 use Rattle.layouts.specs.Primitive.{Version, version, Result, ok, refused}
@@ -18,7 +19,7 @@ use Rattle.layouts.specs.Judge.{judgeOf, entriesOf, payloadOf, lentAfter}
 use Rattle.layouts.specs.Writers.{entryStart, entryLength, viewOf}
 use Rattle.layouts.specs.Soft.{Softened, keptOf, unlessBad}
 use Rattle.layouts.specs.Operations.{Kinds}
-use Rattle.layouts.specs.Calls.{Answer, answered, argumentsKinds, replyKinds, argumentsTree, replyTree, readOf, readOpArgs, readDaemonResult, skipDaemonResult}
+use Rattle.layouts.specs.Calls.{Context, context, Answer, answered, argumentsKinds, replyKinds, argumentsTree, replyTree, readOf, readOpArgs, readDaemonResult, skipDaemonResult}
 use Rattle.layouts.specs.Demands.{meaningOf, Untouched, Verdict}
 use Rattle.layouts.proofs.Judge.{judge-read, entries-length, payload-length, entries-counted, payload-counted}
 use Rattle.layouts.proofs.Placed.{run-placed}
@@ -60,9 +61,13 @@ module _ {A : Type 0} where
   abbrev pub payloadAt : Lent (RefT (List ℕ) × (RefT (List ℕ) × A)) → List ℕ
   payloadAt a = now (a .1 .1 .1 .1 .1 .0)
 
+  -- the mode comes first, where a call takes it
+  abbrev pub contextOf : Mode × Lent A → Context
+  contextOf a = context (a .0) (opOf (a .1)) (versionOf (a .1))
+
   -- the pieces of the arguments, or of the reply, that stand in the stream
-  abbrev argumentsIn : Lent A → Pieces
-  argumentsIn a = run (argumentsTree (opOf a) (versionOf a)) (streamOf a) 0
+  abbrev argumentsIn : Mode × Lent A → Pieces
+  argumentsIn a = run (argumentsTree (contextOf a)) (streamOf (a .1)) 0
 
   abbrev pub replyIn : Lent A → Pieces
   replyIn a = run (replyTree (opOf a) (versionOf a)) (streamOf a) 0
@@ -142,16 +147,16 @@ module _ (v : Version) (k : Kinds) (slots room : ℕ) (s : List ℕ) (t : Tree) 
 module _ (κs : Lfts 3) (a : Dens κs read-op-args-kinds.ps) (r : C.Answer) (x : AtExit (endedOf 3 read-op-args-kinds.ps read-op-args-kinds.r) κs)
     (p : read-op-args.Post κs a r x) where
   -- a refusal changes no lent memory
-  pub arguments-refused : (y : Refusal) → r .outcome ≡ Refused y → (entriesAfter x ≡ entriesAt a) × (payloadAfter x ≡ payloadAt a)
+  pub arguments-refused : (y : Refusal) → r .outcome ≡ Refused y → (entriesAfter (x .1) ≡ entriesAt (a .1)) × (payloadAfter (x .1) ≡ payloadAt (a .1))
   unfolding readOpArgs
-  arguments-refused = refused-read (versionOf a) (argumentsKinds (opOf a)) _ _ (streamOf a) (argumentsTree (opOf a) (versionOf a)) r (p .0) _ _ _ _ (p .1 .0) (p .1 .1)
+  arguments-refused = refused-read (versionOf (a .1)) (argumentsKinds (contextOf a)) _ _ (streamOf (a .1)) (argumentsTree (contextOf a)) r (p .0) _ _ _ _ (p .1 .0) (p .1 .1)
 
   -- a success writes only what it reports
   pub arguments-written : r .outcome ≡ Fine
-      → (drop (2 * r .found .entries) (entriesAfter x) ≡ drop (2 * r .found .entries) (entriesAt a)) ×
-      (drop (r .found .payload) (payloadAfter x) ≡ drop (r .found .payload) (payloadAt a))
+      → (drop (2 * r .found .entries) (entriesAfter (x .1)) ≡ drop (2 * r .found .entries) (entriesAt (a .1))) ×
+      (drop (r .found .payload) (payloadAfter (x .1)) ≡ drop (r .found .payload) (payloadAt (a .1)))
   unfolding readOpArgs
-  arguments-written = written-read (versionOf a) (argumentsKinds (opOf a)) _ _ (streamOf a) (argumentsTree (opOf a) (versionOf a)) r (p .0) _ _ _ _ (p .1 .0) (p .1 .1)
+  arguments-written = written-read (versionOf (a .1)) (argumentsKinds (contextOf a)) _ _ (streamOf (a .1)) (argumentsTree (contextOf a)) r (p .0) _ _ _ _ (p .1 .0) (p .1 .1)
 
 module _ (κs : Lfts 3) (a : Dens κs read-daemon-result-kinds.ps) (r : C.Answer) (x : AtExit (endedOf 3 read-daemon-result-kinds.ps read-daemon-result-kinds.r) κs)
     (p : read-daemon-result.Post κs a r x) where
@@ -231,30 +236,30 @@ module _ (κs : Lfts 1) (a : Dens κs skip-daemon-result-kinds.ps) (x : AtExit (
 -- ---- the same for arguments s that were read, and s'
 module _ (κs : Lfts 3) (a : Dens κs read-op-args-kinds.ps) (r : C.Answer) (x : AtExit (endedOf 3 read-op-args-kinds.ps read-op-args-kinds.r) κs)
     (p : read-op-args.Post κs a r x) (fine : r .outcome ≡ Fine) (κs′ : Lfts 3) (a′ : Dens κs′ read-op-args-kinds.ps) (r′ : C.Answer)
-    (x′ : AtExit (endedOf 3 read-op-args-kinds.ps read-op-args-kinds.r) κs′) (q : read-op-args.Post κs′ a′ r′ x′) (o : opOf a′ ≡ opOf a) (v : versionOf a′ ≡ versionOf a)
-    (soft : Softened (argumentsIn a) (streamOf a) (streamOf a′)) where
+    (x′ : AtExit (endedOf 3 read-op-args-kinds.ps read-op-args-kinds.r) κs′) (q : read-op-args.Post κs′ a′ r′ x′) (same : contextOf a′ ≡ contextOf a)
+    (soft : Softened (argumentsIn a) (streamOf (a .1)) (streamOf (a′ .1))) where
   -- what was said of s
   abbrev before : Answer
   before = record { kind = r .kind; ends = r .ends; ends2 = r .ends2; found = r .found }
 
-  meant : (skipOf (argumentsIn a) ≡ ok (r .ends)) × (meaningOf (versionOf a) (argumentsKinds (opOf a)) (argumentsIn a) (r .ends) ≡ ok before)
+  meant : (skipOf (argumentsIn a) ≡ ok (r .ends)) × (meaningOf (versionOf (a .1)) (argumentsKinds (contextOf a)) (argumentsIn a) (r .ends) ≡ ok before)
   unfolding readOpArgs
   meant =
-      let o = readOpArgs (opOf a) (versionOf a) (streamOf a) (length (entriesAt a) / 2) (length (payloadAt a)) in
-      means (versionOf a) (argumentsKinds (opOf a)) _ _ (streamOf a) (argumentsTree (opOf a) (versionOf a)) before (answer-fine r o (p .0) fine)
+      let o = readOpArgs (contextOf a) (streamOf (a .1)) (length (entriesAt (a .1)) / 2) (length (payloadAt (a .1))) in
+      means (versionOf (a .1)) (argumentsKinds (contextOf a)) _ _ (streamOf (a .1)) (argumentsTree (contextOf a)) before (answer-fine r o (p .0) fine)
 
   -- what follows the arguments is as before
-  pub soft-followed-arguments : drop (r .ends) (streamOf a′) ≡ drop (r .ends) (streamOf a)
-  soft-followed-arguments = soft-rest-arguments (opOf a) (versionOf a) (streamOf a) (streamOf a′) soft (r .ends) (meant .0)
+  pub soft-followed-arguments : drop (r .ends) (streamOf (a′ .1)) ≡ drop (r .ends) (streamOf (a .1))
+  soft-followed-arguments = soft-rest-arguments (contextOf a) (streamOf (a .1)) (streamOf (a′ .1)) soft (r .ends) (meant .0)
 
   -- with room for all: every decoded string of s' is text, and the answer is as before; or 3 in the first that is not
-  pub soft-judged-arguments : keptOf (argumentsIn a) ≤ length (entriesAt a′) / 2 → totalOf (argumentsIn a) ≤ length (payloadAt a′)
-      → (said : Result Answer) × (r′ ≡ answerAs said) × Verdict (streamOf a′) (argumentsIn a) (ok before) said
+  pub soft-judged-arguments : keptOf (argumentsIn a) ≤ length (entriesAt (a′ .1)) / 2 → totalOf (argumentsIn a) ≤ length (payloadAt (a′ .1))
+      → (said : Result Answer) × (r′ ≡ answerAs said) × Verdict (streamOf (a′ .1)) (argumentsIn a) (ok before) said
   soft-judged-arguments slots room =
-      let n = length (entriesAt a′) / 2 in
-      let m = length (payloadAt a′) in (
-        unlessBad (streamOf a′) (argumentsIn a) (ok before),
-        q .0 ∙ ap answerAs (same-as (λ op w. readOpArgs op w (streamOf a′) n m) o v
-            ∙ soft-read-arguments (opOf a) (versionOf a) (streamOf a) (streamOf a′) soft n m (r .ends) (meant .0) slots room ∙ ap (unlessBad (streamOf a′) (argumentsIn a)) (meant .1)),
-        unless-bad (streamOf a′) (argumentsIn a) (ok before),
+      let n = length (entriesAt (a′ .1)) / 2 in
+      let m = length (payloadAt (a′ .1)) in (
+        unlessBad (streamOf (a′ .1)) (argumentsIn a) (ok before),
+        q .0 ∙ ap answerAs (ap (λ (c : Context). readOpArgs c (streamOf (a′ .1)) n m) same
+            ∙ soft-read-arguments (contextOf a) (streamOf (a .1)) (streamOf (a′ .1)) soft n m (r .ends) (meant .0) slots room ∙ ap (unlessBad (streamOf (a′ .1)) (argumentsIn a)) (meant .1)),
+        unless-bad (streamOf (a′ .1)) (argumentsIn a) (ok before),
       )

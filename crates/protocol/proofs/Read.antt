@@ -5,13 +5,14 @@ use mathlib.Core.List.{List, []}
 use mathlib.Core.Bool.{Bool}
 use native.Mathlib.Omega.{arith}
 use lib.ListN.{length}
+use Rattle.layouts.specs.declared.Mode.the-variants.{Ported}
 use Rattle.layouts.specs.Primitive.{Version, Result, ok}
 use Rattle.layouts.specs.Shape.{Tree, fail, layout}
 use Rattle.layouts.specs.Pieces.{Pieces, run}
 use Rattle.layouts.specs.Record.{blank}
 use Rattle.layouts.specs.Judge.{judgeOf, entriesOf, payloadOf, lentAfter}
 use Rattle.layouts.specs.Operations.{Kinds, kindOf}
-use Rattle.layouts.specs.Calls.{Answer, argumentsTree, replyTree, argumentsKinds, replyKinds, readOf, readOpArgs, readDaemonResult}
+use Rattle.layouts.specs.Calls.{Context, Answer, argumentsTree, replyTree, argumentsKinds, replyKinds, readOf, readOpArgs, readDaemonResult}
 use Rattle.layouts.proofs.Judge.{judge-read, entries-length, payload-length}
 use Rattle.layouts.proofs.Placed.{run-placed}
 use Rattle.layouts.proofs.Calls.{answer-of}
@@ -19,7 +20,7 @@ use Rattle.table.specs.Table.{groupsAt, kindNumbered, rowFor}
 use Rattle.table_operations.specs.declared.Shape.{Shape}
 use Rattle.table_operations.specs.declared.Shape.the-variants.{Unknown, At}
 use Rattle.table_operations.specs.Rows.{argumentsOf, replyOf}
-use Rattle.table_operations.proofs.Shapes.{arguments-say, reply-says, shape-refuses}
+use Rattle.table_operations.proofs.Shapes.{arguments-say, shape-refuses, reply-says, reply-refuses}
 use Rattle.writers_output.specs.Numbers.{bytesOf}
 use Rattle.walk_judge.specs.declared.Answer as C
 use Rattle.walk_judge.specs.Judged.{answerAs}
@@ -88,32 +89,39 @@ module _ (v : Version) (k : Kinds) (s : List ℕ) (t : Tree) (x : Shape) (known 
         (r .0, (r .1, payload-as (length bytes / 16) (omega arith)))
 
 -- ---- of arguments and of replies
+module _ (x : Context) (s words bytes payload : List ℕ) (a : C.Answer) (ws bs ps : List ℕ) where
+  abbrev v : Version
+  v = x .spoken
+
+  abbrev shape : Shape
+  shape = argumentsOf (rowFor (x .mode) (x .op))
+
+  module _ (h : ShapeRead v shape s words bytes payload a ws bs ps) where
+    arguments-known : (i c : ℕ) → shape ≡ At i c → (argumentsTree x ≡ layout v (groupsAt i)) × ((b : Bool) → kindOf v b (argumentsKinds x) ≡ kindNumbered v b c)
+    arguments-known i c q = let y = arguments-say (x .mode) (x .op) shape i c refl q in (y .tree v, y .kind v)
+
+    arguments-unknown : shape ≡ Unknown → argumentsTree x ≡ fail 9 0
+    arguments-unknown q = shape-refuses (x .mode) (x .op) shape _ _ refl q .arguments v
+
+    pub arguments-words : bytes ≡ [] → (a ≡ answerAs (readOpArgs x s (length words / 2) (length payload)))
+        × ((ws ≡ lentAfter (readOpArgs x s (length words / 2) (length payload)) (entriesOf (run (argumentsTree x) s 0)) words)
+        × (ps ≡ lentAfter (readOpArgs x s (length words / 2) (length payload)) (payloadOf s (run (argumentsTree x) s 0)) payload))
+    unfolding readOpArgs
+    arguments-words e = in-words v (argumentsKinds x) s (argumentsTree x) _ arguments-known arguments-unknown words bytes payload a ws bs ps h e
+
+    pub arguments-bytes : words ≡ [] → (a ≡ answerAs (readOpArgs x s (length bytes / 16) (length payload)))
+        × ((bs ≡ lentAfter (readOpArgs x s (length bytes / 16) (length payload)) (bytesOf (entriesOf (run (argumentsTree x) s 0))) bytes)
+        × (ps ≡ lentAfter (readOpArgs x s (length bytes / 16) (length payload)) (payloadOf s (run (argumentsTree x) s 0)) payload))
+    unfolding readOpArgs
+    arguments-bytes e = in-bytes v (argumentsKinds x) s (argumentsTree x) _ arguments-known arguments-unknown words bytes payload a ws bs ps h e
+
 module _ (op : ℕ) (v : Version) (s words bytes payload : List ℕ) (a : C.Answer) (ws bs ps : List ℕ) where
-  module _ (h : ShapeRead v (argumentsOf (rowFor op)) s words bytes payload a ws bs ps) where
-    arguments-known : (i c : ℕ) → argumentsOf (rowFor op) ≡ At i c → (argumentsTree op v ≡ layout v (groupsAt i)) × ((b : Bool) → kindOf v b (argumentsKinds op) ≡ kindNumbered v b c)
-    arguments-known i c q = let y = arguments-say op (argumentsOf (rowFor op)) i c refl q in (y .tree v, y .kind v)
+  module _ (h : ShapeRead v (replyOf (rowFor Ported op)) s words bytes payload a ws bs ps) where
+    reply-known : (i c : ℕ) → replyOf (rowFor Ported op) ≡ At i c → (replyTree op v ≡ layout v (groupsAt i)) × ((b : Bool) → kindOf v b (replyKinds op) ≡ kindNumbered v b c)
+    reply-known i c q = let y = reply-says op (replyOf (rowFor Ported op)) i c refl q in (y .tree v, y .kind v)
 
-    arguments-unknown : argumentsOf (rowFor op) ≡ Unknown → argumentsTree op v ≡ fail 9 0
-    arguments-unknown q = shape-refuses op (argumentsOf (rowFor op)) _ _ refl q .arguments v
-
-    pub arguments-words : bytes ≡ [] → (a ≡ answerAs (readOpArgs op v s (length words / 2) (length payload)))
-        × ((ws ≡ lentAfter (readOpArgs op v s (length words / 2) (length payload)) (entriesOf (run (argumentsTree op v) s 0)) words)
-        × (ps ≡ lentAfter (readOpArgs op v s (length words / 2) (length payload)) (payloadOf s (run (argumentsTree op v) s 0)) payload))
-    unfolding readOpArgs
-    arguments-words e = in-words v (argumentsKinds op) s (argumentsTree op v) _ arguments-known arguments-unknown words bytes payload a ws bs ps h e
-
-    pub arguments-bytes : words ≡ [] → (a ≡ answerAs (readOpArgs op v s (length bytes / 16) (length payload)))
-        × ((bs ≡ lentAfter (readOpArgs op v s (length bytes / 16) (length payload)) (bytesOf (entriesOf (run (argumentsTree op v) s 0))) bytes)
-        × (ps ≡ lentAfter (readOpArgs op v s (length bytes / 16) (length payload)) (payloadOf s (run (argumentsTree op v) s 0)) payload))
-    unfolding readOpArgs
-    arguments-bytes e = in-bytes v (argumentsKinds op) s (argumentsTree op v) _ arguments-known arguments-unknown words bytes payload a ws bs ps h e
-
-  module _ (h : ShapeRead v (replyOf (rowFor op)) s words bytes payload a ws bs ps) where
-    reply-known : (i c : ℕ) → replyOf (rowFor op) ≡ At i c → (replyTree op v ≡ layout v (groupsAt i)) × ((b : Bool) → kindOf v b (replyKinds op) ≡ kindNumbered v b c)
-    reply-known i c q = let y = reply-says op (replyOf (rowFor op)) i c refl q in (y .tree v, y .kind v)
-
-    reply-unknown : replyOf (rowFor op) ≡ Unknown → replyTree op v ≡ fail 9 0
-    reply-unknown q = shape-refuses op (replyOf (rowFor op)) _ _ refl q .reply v
+    reply-unknown : replyOf (rowFor Ported op) ≡ Unknown → replyTree op v ≡ fail 9 0
+    reply-unknown q = reply-refuses op (replyOf (rowFor Ported op)) refl q v
 
     pub reply-words : bytes ≡ [] → (a ≡ answerAs (readDaemonResult op v s (length words / 2) (length payload)))
         × ((ws ≡ lentAfter (readDaemonResult op v s (length words / 2) (length payload)) (entriesOf (run (replyTree op v) s 0)) words)

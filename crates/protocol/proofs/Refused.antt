@@ -22,7 +22,7 @@ use Rattle.walk_strings.specs.declared.Passed.{Passed}
 use Rattle.walk_strings.specs.declared.Passed.the-variants as S
 use Rattle.walk_pass.specs.Skip.{skipped}
 use Rattle.walk_pass.proofs.Unique.{skipped-told}
-use Rattle.protocol.proofs.Demands.{opOf, versionOf, streamOf, entriesAt, payloadAt}
+use Rattle.protocol.proofs.Demands.{opOf, versionOf, contextOf, streamOf, entriesAt, payloadAt}
 use Rattle.protocol.proofs.read_op_args.Reads as read-op-args
 use Rattle.protocol.proofs.read_op_args.Kinds as read-op-args-kinds
 use Rattle.protocol.proofs.read_daemon_result.Reads as read-daemon-result
@@ -39,14 +39,14 @@ through f g = (λ a. g .0 (f .0 a), λ c. f .1 (g .1 c))
 
 -- `read_op_args` refuses by this number at this place exactly when a beginning of the arguments reads and what comes next is at fault so
 pub arguments-refused-when : (κs : Lfts 3) (a : Dens κs read-op-args-kinds.ps) (r : C.Answer) (x : AtExit (endedOf 3 read-op-args-kinds.ps read-op-args-kinds.r) κs)
-    → read-op-args.Post κs a r x → Bytes (streamOf a) → (which place : ℕ)
+    → read-op-args.Post κs a r x → Bytes (streamOf (a .1)) → (which place : ℕ)
     → (r .outcome ≡ Refused (plain which place))
-    ↔ Refuses (length (entriesAt a) / 2) (length (payloadAt a)) (argumentsTree (opOf a) (versionOf a)) 0 blank (streamOf a) which place
+    ↔ Refuses (length (entriesAt (a .1)) / 2) (length (payloadAt (a .1))) (argumentsTree (contextOf a)) 0 blank (streamOf (a .1)) which place
 arguments-refused-when κs a r x p bytes which place =
-    let n = length (entriesAt a) / 2 in
-    let m = length (payloadAt a) in
-    through (told-refused r (readOpArgs (opOf a) (versionOf a) (streamOf a) n m) (p .0) which place)
-    (L.arguments-refused-when (opOf a) (versionOf a) (streamOf a) bytes n m which place)
+    let n = length (entriesAt (a .1)) / 2 in
+    let m = length (payloadAt (a .1)) in
+    through (told-refused r (readOpArgs (contextOf a) (streamOf (a .1)) n m) (p .0) which place)
+    (L.arguments-refused-when (contextOf a) (streamOf (a .1)) bytes n m which place)
 
 -- `read_daemon_result` likewise
 pub reply-refused-when : (κs : Lfts 3) (a : Dens κs read-daemon-result-kinds.ps) (r : C.Answer) (x : AtExit (endedOf 3 read-daemon-result-kinds.ps read-daemon-result-kinds.r) κs)

@@ -24,7 +24,7 @@ use Rattle.protocol.proofs.read_daemon_result_bytes.Reads as read-daemo
 use Rattle.protocol.proofs.read_daemon_result_bytes.Kinds as read-daemon-result-bytes-kinds
 
 pub read-op-args-unique : (κs : Lfts 3) (a : Dens κs read-op-args-kinds.ps) (r r′ : Answer) (x x′ : AtExit (endedOf 3 read-op-args-kinds.ps read-op-args-kinds.r) κs)
-    → read-op-args.Post κs a r x → read-op-args.Post κs a r′ x′ → (r ≡ r′) × (now (x .1 .1 .1 .1 .0) ≡ now (x′ .1 .1 .1 .1 .0)) × (now (x .1 .1 .1 .1 .1 .0) ≡ now (x′ .1 .1 .1 .1 .1 .0))
+    → read-op-args.Post κs a r x → read-op-args.Post κs a r′ x′ → (r ≡ r′) × (now (x .1 .1 .1 .1 .1 .0) ≡ now (x′ .1 .1 .1 .1 .1 .0)) × (now (x .1 .1 .1 .1 .1 .1 .0) ≡ now (x′ .1 .1 .1 .1 .1 .1 .0))
 read-op-args-unique κs a r r′ x x′ p q = (p .0 ∙ sym (q .0), p .1 .0 ∙ sym (q .1 .0), p .1 .1 ∙ sym (q .1 .1))
 
 pub skip-op-args-unique : (κs : Lfts 1) (a : Dens κs skip-op-args-kinds.ps) (r r′ : Arguments) (x x′ : AtExit (endedOf 1 skip-op-args-kinds.ps skip-op-args-kinds.r) κs)
@@ -41,9 +41,9 @@ skip-daemon-result-unique κs a r r′ x x′ p q = skipped-told r r′ (p ∙ s
 
 pub read-op-args-bytes-unique : (κs : Lfts 5) (a : Dens κs read-op-args-bytes-kinds.ps) (r r′ : Said) (x x′ : AtExit (endedOf 5 read-op-args-bytes-kinds.ps read-op-args-bytes-kinds.r) κs)
     → read-op-args-bytes.Post κs a r x → read-op-args-bytes.Post κs a r′ x′
-    → ((r ≡ r′) × (now (x .1 .1 .1 .1 .1 .1 .0) ≡ now (x′ .1 .1 .1 .1 .1 .1 .0)) × (now (x .1 .1 .1 .1 .1 .1 .1 .0) ≡ now (x′ .1 .1 .1 .1 .1 .1 .1 .0))) × (now (x .1 .1 .1 .1 .0) ≡ now (x′ .1 .1 .1 .1 .0)) × (now (x .1 .1 .1 .1 .1 .0) ≡ now (x′ .1 .1 .1 .1 .1 .0))
+    → ((r ≡ r′) × (now (x .1 .1 .1 .1 .1 .1 .1 .0) ≡ now (x′ .1 .1 .1 .1 .1 .1 .1 .0)) × (now (x .1 .1 .1 .1 .1 .1 .1 .1 .0) ≡ now (x′ .1 .1 .1 .1 .1 .1 .1 .1 .0))) × (now (x .1 .1 .1 .1 .1 .0) ≡ now (x′ .1 .1 .1 .1 .1 .0)) × (now (x .1 .1 .1 .1 .1 .1 .0) ≡ now (x′ .1 .1 .1 .1 .1 .1 .0))
 read-op-args-bytes-unique κs a r r′ x x′ p q = (
-  said-told r r′ (now (x .1 .1 .1 .1 .1 .1 .0)) (now (x .1 .1 .1 .1 .1 .1 .1 .0)) (now (x′ .1 .1 .1 .1 .1 .1 .0)) (now (x′ .1 .1 .1 .1 .1 .1 .1 .0)) (p .0 ∙ sym (q .0)),
+  said-told r r′ (now (x .1 .1 .1 .1 .1 .1 .1 .0)) (now (x .1 .1 .1 .1 .1 .1 .1 .1 .0)) (now (x′ .1 .1 .1 .1 .1 .1 .1 .0)) (now (x′ .1 .1 .1 .1 .1 .1 .1 .1 .0)) (p .0 ∙ sym (q .0)),
   p .1 .0 ∙ sym (q .1 .0),
   p .1 .1 ∙ sym (q .1 .1),
 )

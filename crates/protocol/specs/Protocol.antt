@@ -6,7 +6,7 @@ use Rattle.layouts.specs.Primitive.{Version, Result, ok, refused}
 use Rattle.layouts.specs.Refusal.{refusal}
 use Rattle.layouts.specs.Pieces.{run}
 use Rattle.layouts.specs.Judge.{entriesOf, payloadOf}
-use Rattle.layouts.specs.Calls.{Answer, argumentsTree, replyTree, readOpArgs, readDaemonResult}
+use Rattle.layouts.specs.Calls.{Context, Answer, argumentsTree, replyTree, readOpArgs, readDaemonResult}
 use Rattle.walk_judge.specs.declared.Outcome.the-variants.{Fine, Refused}
 use Rattle.walk_judge.specs.declared.Answer as C
 use Rattle.walk_judge.specs.Judged.{answerAs}
@@ -14,10 +14,10 @@ use Rattle.walk_rooms.specs.Rooms.{LentRead, lentRead}
 use Rattle.protocol.specs.declared.Arguments.{Arguments}
 
 -- ---- a read: the answer, and the two lent slices afterwards. Two numbers make a slot
-abbrev pub argumentsRead : (op : ℕ) → Version → (s entries payload : List ℕ) → LentRead C.Answer
-argumentsRead op v s entries payload =
-    lentRead answerAs (readOpArgs op v s (length entries / 2) (length payload))
-    (entriesOf (run (argumentsTree op v) s 0)) (payloadOf s (run (argumentsTree op v) s 0)) entries payload
+abbrev pub argumentsRead : Context → (s entries payload : List ℕ) → LentRead C.Answer
+argumentsRead c s entries payload =
+    lentRead answerAs (readOpArgs c s (length entries / 2) (length payload))
+    (entriesOf (run (argumentsTree c) s 0)) (payloadOf s (run (argumentsTree c) s 0)) entries payload
 
 abbrev pub replyRead : (op : ℕ) → Version → (s entries payload : List ℕ) → LentRead C.Answer
 replyRead op v s entries payload =

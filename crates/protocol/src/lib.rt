@@ -6,13 +6,14 @@ ghost use Rattle.layouts.specs.Primitive.{version};
 ghost use Rattle.layouts.specs.Refusal.{refusedBy};
 ghost use Rattle.layouts.specs.Pieces.{run, skipOf};
 ghost use Rattle.layouts.specs.Judge.{entriesOf};
-ghost use Rattle.layouts.specs.Calls.{skippedTree, skipOpArgs, skipDaemonResult};
+ghost use Rattle.layouts.specs.Calls.{context, skippedTree, skipOpArgs, skipDaemonResult};
 ghost use Rattle.walk_items.specs.Items.{versionOf, piecesOf};
 ghost use Rattle.walk_judge.specs.Judged.{answerOf};
 ghost use Rattle.walk_read.specs.Reading.{readBy, answeredAs};
 ghost use Rattle.walk_pass.specs.Skip.{skipped};
 ghost use Rattle.protocol.specs.Protocol.{argumentsRead, replyRead, argumentsAs};
 ghost use Rattle.protocol.specs.Bytes as B;
+use layouts::Mode;
 use layouts::Refusal;
 use numbers::Number;
 use table_operations::Shape;
@@ -34,6 +35,7 @@ pub struct Arguments {
 }
 
 pub fn read_op_args(
+    mode: Mode,
     op: u64,
     major: u16,
     minor: u8,
@@ -41,14 +43,15 @@ pub fn read_op_args(
     entries: &mut [u64],
     payload: &mut [u8],
 ) -> Answer
-    ensures answer { λ r. ⌜ r ≡ argumentsRead op (version major minor) (now (s .entry)) (now (entries .entry)) (now (payload .entry)) .answer ⌝ }
-    ensures entries { λ r. ⌜ now (entries .exit) ≡ argumentsRead op (version major minor) (now (s .entry)) (now (entries .entry)) (now (payload .entry)) .entries ⌝ }
-    ensures payload { λ r. ⌜ now (payload .exit) ≡ argumentsRead op (version major minor) (now (s .entry)) (now (entries .entry)) (now (payload .entry)) .payload ⌝ }
+    ensures answer { λ r. ⌜ r ≡ argumentsRead (context mode op (version major minor)) (now (s .entry)) (now (entries .entry)) (now (payload .entry)) .answer ⌝ }
+    ensures entries { λ r. ⌜ now (entries .exit) ≡ argumentsRead (context mode op (version major minor)) (now (s .entry)) (now (entries .entry)) (now (payload .entry)) .entries ⌝ }
+    ensures payload { λ r. ⌜ now (payload .exit) ≡ argumentsRead (context mode op (version major minor)) (now (s .entry)) (now (entries .entry)) (now (payload .entry)) .payload ⌝ }
 {
     let mut none: [u8; 0] = [];
     let mut numbers = [0u64; 12];
     let mut counts = [0u64; 3];
     let said = walk_shapes::read_arguments(
+        mode,
         op,
         major,
         minor,
@@ -64,6 +67,7 @@ pub fn read_op_args(
 
 // The same with entries of sixteen bytes, and with the numbers and counts beside what is said.
 pub fn read_op_args_bytes(
+    mode: Mode,
     op: u64,
     major: u16,
     minor: u8,
@@ -73,12 +77,13 @@ pub fn read_op_args_bytes(
     numbers: &mut [u64; 12],
     counts: &mut [u64; 3],
 ) -> Said
-    ensures answer { λ r. ⌜ answerOf r (now (numbers .exit)) (now (counts .exit)) ≡ B.argumentsRead op (version major minor) (now (s .entry)) (now (entries .entry)) (now (payload .entry)) .answer ⌝ }
-    ensures entries { λ r. ⌜ now (entries .exit) ≡ B.argumentsRead op (version major minor) (now (s .entry)) (now (entries .entry)) (now (payload .entry)) .entries ⌝ }
-    ensures payload { λ r. ⌜ now (payload .exit) ≡ B.argumentsRead op (version major minor) (now (s .entry)) (now (entries .entry)) (now (payload .entry)) .payload ⌝ }
+    ensures answer { λ r. ⌜ answerOf r (now (numbers .exit)) (now (counts .exit)) ≡ B.argumentsRead (context mode op (version major minor)) (now (s .entry)) (now (entries .entry)) (now (payload .entry)) .answer ⌝ }
+    ensures entries { λ r. ⌜ now (entries .exit) ≡ B.argumentsRead (context mode op (version major minor)) (now (s .entry)) (now (entries .entry)) (now (payload .entry)) .entries ⌝ }
+    ensures payload { λ r. ⌜ now (payload .exit) ≡ B.argumentsRead (context mode op (version major minor)) (now (s .entry)) (now (entries .entry)) (now (payload .entry)) .payload ⌝ }
 {
     let mut none: [u64; 0] = [];
     walk_shapes::read_arguments(
+        mode,
         op,
         major,
         minor,
@@ -145,10 +150,10 @@ fn skip_layout(s: &[u8], layout: Layout, code: u8) -> Arguments
 }
 
 // Stops before framed data, and checks the text of no string but the one that it answers.
-pub fn skip_op_args(op: u64, major: u16, minor: u8, s: &[u8]) -> Arguments
-    ensures { λ r. ⌜ r ≡ argumentsAs (skipOpArgs op (version major minor) (now (s .entry))) (entriesOf (run (skippedTree op (version major minor)) (now (s .entry)) 0)) ⌝ }
+pub fn skip_op_args(mode: Mode, op: u64, major: u16, minor: u8, s: &[u8]) -> Arguments
+    ensures { λ r. ⌜ r ≡ argumentsAs (skipOpArgs (context mode op (version major minor)) (now (s .entry))) (entriesOf (run (skippedTree (context mode op (version major minor))) (now (s .entry)) 0)) ⌝ }
 {
-    let f = table_operations::skipped(op);
+    let f = table_operations::skipped(mode, op);
     match f {
         Shape::Unknown => refused_arguments(layouts::refuse(layouts::UNKNOWN_OPERATION, 0)),
         Shape::At { first, kind } => {

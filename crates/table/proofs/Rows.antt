@@ -2,23 +2,29 @@
 use Prim.Native.Nat.{ℕ, zero, suc}
 use mathlib.Core.Path.{_≡_, refl, sym, _∙_, ap, subst}
 use mathlib.Core.Bool.{Bool, true, false}
-use mathlib.Core.List.{List, [], _∷_, map}
+use mathlib.Core.List.{List, [], _∷_, _++_, map}
 use native.Mathlib.Omega.{arith}
 use borrow.Author.Tests.{eqb-true}
 use lib.Dec.{eqb}
+use Rattle.layouts.specs.declared.Mode.{Mode}
+use Rattle.layouts.specs.declared.Mode.the-variants.{Ported, Published}
 use Rattle.layouts.specs.Primitive.{pick, Version, unknownOperation, noArguments, Result, ok, refused}
 use Rattle.layouts.specs.Shape.{What, Group, once, opt, many, layout, fail}
 use Rattle.layouts.specs.CallWriter.{fieldsThere, fieldsBy, callFields}
-use Rattle.layouts.specs.Operations.{argumentsNumber, replyNumber, skippedNumber, Kinds, none, only, byVersion, byFlag, byNumber, kindOf, skippedKind, Operation, Row, row, unknown, rowIf, operations}
+use Rattle.layouts.specs.Operations.{argumentsNumber, replyNumber, skippedNumber, Kinds, none, only, byVersion, byFlag, byNumber, kindOf, skippedKind, Operation, Row, row, unknown, rowIf, operations, published}
 use Rattle.layouts.specs.Operations as O
-use Rattle.layouts.specs.Calls.{argumentsTree, skippedTree, replyTree, kindBy, argumentsKinds, skippedKinds, replyKinds, hasFramed, opHasClientFramedData}
+use Rattle.layouts.specs.Calls.{context, byRow, argumentsTree, skippedTree, kindBy, argumentsKinds, skippedKinds, hasFramed, ifKnown}
 use Rattle.table.specs.declared.Row as R
 use Rattle.table.specs.declared.Found.{Found}
 use Rattle.table.specs.declared.Found.the-variants as F
-use Rattle.table.specs.Packed.{rows}
+use Rattle.table.specs.Packed.{rows, publishedRows}
 use Rattle.table.specs.Numbered.{Numbered, numberedValue}
-use Rattle.table.specs.Table.{groupsAt, findIn, rowFor, rowIn, rowAt, numberedOf, kindNumbered}
-use Rattle.table.specs.Claims.{numbered, Said, said, wanted, rows-say}
+use Rattle.table.specs.Table.{groupsAt, findIn, rowsIn, rowFor, rowIn, ownRows, rowAt, numberedOf, kindNumbered}
+use Rattle.table.specs.Claims.{numbered, Said, said, wanted, rows-say, published-say}
+
+map-both : {A B : Type 0} (f : A → B) (xs ys : List A) → map f (xs ++ ys) ≡ map f xs ++ map f ys
+map-both f [] ys = refl
+map-both f (x ∷ xs) ys = ap (λ (zs : List _). f x ∷ zs) (map-both f xs ys)
 
 -- ---- both searches find the same
 abbrev Match : (op : ℕ) → Found → Row → Type 0
@@ -44,9 +50,15 @@ match-in op (r ∷ rs) (o ∷ os) e =
     let t : map said rs ≡ map wanted os = cc in
     match-if op r o (eqb (r .number) op) (eqb (o .code) op) (findIn rs op) (O.findIn os op) h (ap (λ (x : Said). eqb (x .code) op) h) refl (match-in op rs os t)
 
-match-found : (op : ℕ) → Match op (rowFor op) (O.find op)
+-- of both modes
+all-say : (m : Mode) → map said (rowsIn m) ≡ map wanted (O.rowsIn m)
+all-say Ported = rows-say
+all-say Published = map-both said publishedRows rows ∙ ap (λ (xs : List Said). xs ++ map said rows) published-say
+    ∙ ap (λ (xs : List Said). map wanted published ++ xs) rows-say ∙ sym (map-both wanted published operations)
+
+match-found : (m : Mode) (op : ℕ) → Match op (rowFor m op) (O.find m op)
 unfolding rowFor O.find
-match-found op = match-in op rows operations rows-say
+match-found m op = match-in op (rowsIn m) (O.rowsIn m) (all-say m)
 
 -- ---- what that says
 numbered-value : (v : Version) (b : Bool) (k : Kinds) → kindOf v b k ≡ numberedValue v b (numbered k)
@@ -67,70 +79,72 @@ firstFields v (many i xs ∷ gs) = []
 abbrev pub fieldsFor : Version → (i k : ℕ) → Result (List What)
 fieldsFor v i k = pick (eqb (kindNumbered v false k) 0) (refused noArguments 0 0) (ok (firstFields v (groupsAt i)))
 
-pub record Says (op : ℕ) (r : R.Row) : Type 0 where
-  pub call : (v : Version) → callFields op v ≡ fieldsFor v (r .arguments) (r .«arguments_kind»)
-  pub arguments : (v : Version) → argumentsTree op v ≡ layout v (groupsAt (r .arguments))
-  pub skips : (v : Version) → skippedTree op v ≡ layout v (groupsAt (r .skipped))
-  pub reply : (v : Version) → replyTree op v ≡ layout v (groupsAt (r .reply))
-  pub argumentsKind : (v : Version) (b : Bool) → kindOf v b (argumentsKinds op) ≡ kindNumbered v b (r .«arguments_kind»)
-  pub skippedKind : (v : Version) (b : Bool) → kindOf v b (skippedKinds op) ≡ kindNumbered v b (r .«skipped_kind»)
-  pub replyKind : (v : Version) (b : Bool) → kindOf v b (replyKinds op) ≡ kindNumbered v b (r .«reply_kind»)
-  pub sendsFrames : opHasClientFramedData op ≡ ok (hasFramed op)
+pub record Says (m : Mode) (op : ℕ) (r : R.Row) : Type 0 where
+  pub call : (v : Version) → callFields (context m op v) ≡ fieldsFor v (r .arguments) (r .«arguments_kind»)
+  pub arguments : (v : Version) → argumentsTree (context m op v) ≡ layout v (groupsAt (r .arguments))
+  pub skips : (v : Version) → skippedTree (context m op v) ≡ layout v (groupsAt (r .skipped))
+  pub reply : (v : Version) → byRow (O.find m op) (λ o. layout v (o .reply)) ≡ layout v (groupsAt (r .reply))
+  pub argumentsKind : (v : Version) (b : Bool) → kindOf v b (argumentsKinds (context m op v)) ≡ kindNumbered v b (r .«arguments_kind»)
+  pub skippedKind : (v : Version) (b : Bool) → kindOf v b (skippedKinds (context m op v)) ≡ kindNumbered v b (r .«skipped_kind»)
+  pub replyKind : (v : Version) (b : Bool) → kindOf v b (kindBy (O.find m op) (λ o. byNumber replyNumber (o .replyKind))) ≡ kindNumbered v b (r .«reply_kind»)
+  pub known : ifKnown (O.find m op) (hasFramed op) ≡ ok (hasFramed op)
 
-pub record Refuses (op : ℕ) : Type 0 where
-  pub call : (v : Version) → callFields op v ≡ refused unknownOperation 0 0
-  pub arguments : (v : Version) → argumentsTree op v ≡ fail 9 0
-  pub skips : (v : Version) → skippedTree op v ≡ fail 9 0
-  pub reply : (v : Version) → replyTree op v ≡ fail 9 0
-  pub sendsFrames : opHasClientFramedData op ≡ refused 9 0 0
+pub record Refuses (m : Mode) (op : ℕ) : Type 0 where
+  pub call : (v : Version) → callFields (context m op v) ≡ refused unknownOperation 0 0
+  pub arguments : (v : Version) → argumentsTree (context m op v) ≡ fail 9 0
+  pub skips : (v : Version) → skippedTree (context m op v) ≡ fail 9 0
+  pub reply : (v : Version) → byRow (O.find m op) (λ o. layout v (o .reply)) ≡ fail 9 0
+  pub known : ifKnown (O.find m op) (hasFramed op) ≡ refused 9 0 0
 
-module _ (op : ℕ) where
-  kind-by : (v : Version) (b : Bool) (o : Operation) (k : Operation → Kinds) (n : Numbered) → O.find op ≡ row o → n ≡ numbered (k o)
-      → kindOf v b (kindBy (O.find op) k) ≡ numberedValue v b n
+module _ (m : Mode) (op : ℕ) where
+  kind-by : (v : Version) (b : Bool) (o : Operation) (k : Operation → Kinds) (n : Numbered) → O.find m op ≡ row o → n ≡ numbered (k o)
+      → kindOf v b (kindBy (O.find m op) k) ≡ numberedValue v b n
   kind-by v b o k n e q = rw (e, q) (numbered-value v b (k o))
 
-  call-by : (v : Version) (r : R.Row) (o : Operation) → O.find op ≡ row o → said r ≡ wanted o → callFields op v ≡ fieldsFor v (r .arguments) (r .«arguments_kind»)
+  call-by : (v : Version) (r : R.Row) (o : Operation) → O.find m op ≡ row o → said r ≡ wanted o
+      → callFields (context m op v) ≡ fieldsFor v (r .arguments) (r .«arguments_kind»)
   unfolding callFields
   call-by v r o e q =
-      ap (λ (y : Row). fieldsBy y op v) e
+      ap (λ (y : Row). fieldsBy y (context m op v)) e
       ∙ ap (λ (n : ℕ). pick (eqb n 0) (refused noArguments 0 0) (ok (fieldsThere v (o .arguments))))
       (kind-by v false o (λ o. byNumber argumentsNumber (o .argumentsKind)) (numberedOf (r .«arguments_kind»)) e (ap (λ (x : Said). x .argumentsKind) q))
       ∙ ap (λ (x : Said). pick (eqb (kindNumbered v false (r .«arguments_kind»)) 0) (refused noArguments 0 0) (ok (firstFields v (x .arguments)))) (sym q)
 
-  says-by : (r : R.Row) (x : Row) → O.find op ≡ x → Match op (F.Row r) x → Says op r
-  unfolding argumentsTree skippedTree replyTree opHasClientFramedData
-  says-by r unknown e m = absurd m
-  says-by r (row o) e m =
+  says-by : (r : R.Row) (x : Row) → O.find m op ≡ x → Match op (F.Row r) x → Says m op r
+  unfolding argumentsTree skippedTree
+  says-by r unknown e t = absurd t
+  says-by r (row o) e t =
       record {
-        call = λ v. call-by v r o e (m .0);
-        arguments = λ v. rw e (ap (λ (x : Said). layout v (x .arguments)) (sym (m .0)));
-        skips = λ v. rw e (ap (λ (x : Said). layout v (x .skips)) (sym (m .0)));
-        reply = λ v. rw e (ap (λ (x : Said). layout v (x .reply)) (sym (m .0)));
-        argumentsKind = λ v b. kind-by v b o (λ o. byNumber argumentsNumber (o .argumentsKind)) _ e (ap (λ (x : Said). x .argumentsKind) (m .0));
-        skippedKind = λ v b. kind-by v b o (λ o. byNumber skippedNumber (skippedKind (o .skip))) _ e (ap (λ (x : Said). x .skippedKind) (m .0));
-        replyKind = λ v b. kind-by v b o (λ o. byNumber replyNumber (o .replyKind)) _ e (ap (λ (x : Said). x .replyKind) (m .0));
-        sendsFrames = rw e;
+        call = λ v. call-by v r o e (t .0);
+        arguments = λ v. rw e (ap (λ (x : Said). layout v (x .arguments)) (sym (t .0)));
+        skips = λ v. rw e (ap (λ (x : Said). layout v (x .skips)) (sym (t .0)));
+        reply = λ v. rw e (ap (λ (x : Said). layout v (x .reply)) (sym (t .0)));
+        argumentsKind = λ v b. kind-by v b o (λ o. byNumber argumentsNumber (o .argumentsKind)) _ e (ap (λ (x : Said). x .argumentsKind) (t .0));
+        skippedKind = λ v b. kind-by v b o (λ o. byNumber skippedNumber (skippedKind (o .skip))) _ e (ap (λ (x : Said). x .skippedKind) (t .0));
+        replyKind = λ v b. kind-by v b o (λ o. byNumber replyNumber (o .replyKind)) _ e (ap (λ (x : Said). x .replyKind) (t .0));
+        known = rw e;
       }
 
-  refuses-by : (x : Row) → O.find op ≡ x → Match op F.Unknown x → Refuses op
-  unfolding callFields argumentsTree skippedTree replyTree opHasClientFramedData
-  refuses-by (row o) e m = absurd m
-  refuses-by unknown e m = record { call = λ v. rw e; arguments = λ v. rw e; skips = λ v. rw e; reply = λ v. rw e; sendsFrames = rw e }
+  refuses-by : (x : Row) → O.find m op ≡ x → Match op F.Unknown x → Refuses m op
+  unfolding callFields argumentsTree skippedTree
+  refuses-by (row o) e t = absurd t
+  refuses-by unknown e t = record { call = λ v. rw e; arguments = λ v. rw e; skips = λ v. rw e; reply = λ v. rw e; known = rw e }
 
-  matched : (x y : Found) → x ≡ rowFor op → x ≡ y → Match op y (O.find op)
-  matched x y e q = subst (λ (z : Found). Match op z (O.find op)) (sym e ∙ q) (match-found op)
+  matched : (x y : Found) → x ≡ rowFor m op → x ≡ y → Match op y (O.find m op)
+  matched x y e q = subst (λ (z : Found). Match op z (O.find m op)) (sym e ∙ q) (match-found m op)
 
   -- for a caller of `find` that has matched on its answer
-  pub found-says : (x : Found) (r : R.Row) → x ≡ rowFor op → x ≡ F.Row r → Says op r
-  found-says x r e q = says-by r (O.find op) refl (matched x (F.Row r) e q)
+  pub found-says : (x : Found) (r : R.Row) → x ≡ rowFor m op → x ≡ F.Row r → Says m op r
+  found-says x r e q = says-by r (O.find m op) refl (matched x (F.Row r) e q)
 
-  pub unknown-refuses : (x : Found) → x ≡ rowFor op → x ≡ F.Unknown → Refuses op
-  unknown-refuses x e q = refuses-by (O.find op) refl (matched x F.Unknown e q)
+  pub unknown-refuses : (x : Found) → x ≡ rowFor m op → x ≡ F.Unknown → Refuses m op
+  unknown-refuses x e q = refuses-by (O.find m op) refl (matched x F.Unknown e q)
 
 -- ---- a row at a place is what the search for its number finds: no two rows have one number
-rows-found : map (λ (r : R.Row). rowFor (r .number)) rows ≡ map F.Row rows
+rows-found : (m : Mode) → map (λ (r : R.Row). rowFor m (r .number)) (ownRows m) ≡ map F.Row (ownRows m)
 unfolding rowFor findIn
-rows-found = refl
+rows-found Ported = refl
+rows-found Published = refl
 
 at-place : (f : R.Row → Found) (rs : List R.Row) (i : ℕ) (r : R.Row) → map f rs ≡ map F.Row rs → rowIn rs i ≡ F.Row r → f r ≡ F.Row r
 unfolding rowIn
@@ -138,6 +152,6 @@ at-place f [] i r e q = let z : _≡_ {A = ℕ} 0 1 = cc in absurd (omega arith)
 at-place f (x ∷ rs) zero r e q = let h : x ≡ r = cc in let g : f x ≡ F.Row x = cc in rw (← h) g
 at-place f (x ∷ rs) (suc i) r e q = let t : map f rs ≡ map F.Row rs = cc in at-place f rs i r t q
 
-pub found-at : (i : ℕ) (r : R.Row) → rowAt i ≡ F.Row r → rowFor (r .number) ≡ F.Row r
+pub found-at : (m : Mode) (i : ℕ) (r : R.Row) → rowAt m i ≡ F.Row r → rowFor m (r .number) ≡ F.Row r
 unfolding rowAt
-found-at i r q = at-place (λ (x : R.Row). rowFor (x .number)) rows i r rows-found q
+found-at m i r q = at-place (λ (x : R.Row). rowFor m (x .number)) (ownRows m) i r (rows-found m) q

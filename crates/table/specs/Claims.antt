@@ -4,14 +4,14 @@ use mathlib.Core.Path.{_≡_, refl}
 use mathlib.Core.List.{List, [], _∷_, _++_, map}
 use Rattle.layouts.specs.Primitive.{version}
 use Rattle.layouts.specs.Shape.{asCount, kept, set, framed, Group, once, layout}
-use Rattle.layouts.specs.Operations.{argumentsNumber, replyNumber, skippedNumber, Kinds, none, only, byVersion, byFlag, byNumber, skippedKind, Operation, aNumber, operations}
+use Rattle.layouts.specs.Operations.{argumentsNumber, replyNumber, skippedNumber, Kinds, none, only, byVersion, byFlag, byNumber, skippedKind, Operation, aNumber, operations, published}
 use Rattle.layouts.specs.Calls.{field}
 use Rattle.layouts.specs.Stderr.{Next, Read, Write, StartActivity, StopActivity, Result#, goes, messageOf, errorBlock}
 use Rattle.layouts.specs.Handshake.{hello, featureFields, obsoleteFields, infoFields}
 use Rattle.table.specs.declared.Row.{Row}
 use Rattle.table.specs.Numbered.{Numbered, just}
 use Rattle.table.specs.Numbered as K
-use Rattle.table.specs.Packed.{packedTable, rows}
+use Rattle.table.specs.Packed.{packedTable, rows, publishedRows}
 use Rattle.table.specs.Packed as P
 use Rattle.table.specs.Table.{roleOf, targetOf, whatOf, itemOf, unlessEnd, consGated, items, itemsAt, groupOf, consGroup, groupsIn, groupsAt, numberedOf}
 
@@ -59,6 +59,10 @@ wanted o =
 pub rows-say : map said rows ≡ map wanted operations
 unfolding operations groupsAt groupsIn consGroup groupOf itemsAt items consGated unlessEnd itemOf whatOf targetOf roleOf packedTable numberedOf
 rows-say = refl
+
+pub published-say : map said publishedRows ≡ map wanted published
+unfolding published groupsAt groupsIn consGroup groupOf itemsAt items consGated unlessEnd itemOf whatOf targetOf roleOf packedTable numberedOf
+published-say = refl
 
 -- the other layouts
 pub record Others : Type 0 where

@@ -5,176 +5,192 @@ use Rattle.table.specs.declared.Row.{Row}
 use Rattle.table.specs.Numbered.{Numbered, just, byVersion, byFlag}
 
 abbrev pub size : ℕ
-size = 281
+size = 301
 
 -- the groups of the layouts, then their fields
 abbrev pub packedList : List ℕ
 packedList =
     -- 0: S
-    54529 ∷ 0 ∷
+    56577 ∷ 0 ∷
     -- 2: N
-    61441 ∷ 0 ∷
-    -- 4: S*
-    55553 ∷ 0 ∷
-    -- 6: from 1.25 S S S* flag F
-    46593 ∷ 0 ∷
-    -- 8: below 1.25 S n n s, from 1.25 S s s* n
-    37889 ∷ 0 ∷
-    -- 10: below 1.25 S, from 1.25 S without entry S S S* N N flag S* S
-    32257 ∷ 0 ∷
-    -- 12: S S S*
-    55041 ∷ 0 ∷
-    -- 14: s s s*
-    56065 ∷ 0 ∷
-    -- 16: S* N
-    61185 ∷ 0 ∷
-    -- 18: s* n
-    61953 ∷ 0 ∷
-    -- 20: nothing
-    28417 ∷ 0 ∷
-    -- 22: P
-    68865 ∷ 0 ∷
-    -- 24: N N N N N N N N N N, from 1.10 N, from 1.12 N P
-    25089 ∷ 0 ∷
-    -- 26: n n n n n n n n n n, from 1.10 n, from 1.12 n p
-    28673 ∷ 0 ∷
-    -- 28: N S* N N n n n
-    42497 ∷ 0 ∷
-    -- 30: n s* n n n n n
-    44545 ∷ 0 ∷
-    -- 32: N n n
-    57089 ∷ 0 ∷
-    -- 34: flag, if true S S* N N
-    51314 ∷ 0 ∷
-    -- 36: flag, if true S S S* N N, from 1.16 flag S* S
-    40306 ∷ 0 ∷
-    -- 38: s*
-    69377 ∷ 0 ∷
-    -- 40: count of S S s* n n
-    48231 ∷ 0 ∷
-    -- 42: S*, from 1.27 flag
-    62721 ∷ 0 ∷
-    -- 44: s*, from 1.27 n
     63489 ∷ 0 ∷
-    -- 46: flag flag
-    64257 ∷ 0 ∷
-    -- 48: n n
-    43777 ∷ 0 ∷
-    -- 50: n s, from 1.29 n n n n, from 1.37 flag with n flag with n, from 1.28 p
-    35329 ∷ 0 ∷
-    -- 52: S S*
-    55297 ∷ 0 ∷
-    -- 54: S s*
-    65025 ∷ 0 ∷
-    -- 56: from 1.23 F
-    69889 ∷ 0 ∷
-    -- 58: S* S* S* N N
-    49665 ∷ 0 ∷
-    -- 60: flag flag F
+    -- 4: S*
+    57601 ∷ 0 ∷
+    -- 6: from 1.25 S S S* flag F
+    48641 ∷ 0 ∷
+    -- 8: below 1.25 S n n s, from 1.25 S s s* n
+    39937 ∷ 0 ∷
+    -- 10: below 1.25 S, from 1.25 S without entry S S S* N N flag S* S
+    34305 ∷ 0 ∷
+    -- 12: S S S*
+    57089 ∷ 0 ∷
+    -- 14: s s s*
     58113 ∷ 0 ∷
-    -- 62: S F
-    65793 ∷ 0 ∷
-    -- 64: count of s n s, from 1.29 n n n n, from 1.37 flag with n flag with n, from 1.28 p
-    35075 ∷ 0 ∷
-    -- 66: S S
-    54273 ∷ 0 ∷
-    -- 68: s s
-    66561 ∷ 0 ∷
-    -- 70: s
-    53249 ∷ 0 ∷
-    -- 72: n
-    44033 ∷ 0 ∷
-    -- 74: n n n s, count of typed, n
-    52481 ∷ 70403 ∷ 44033 ∷ 0 ∷
-    -- 78: n n, count of typed
-    43777 ∷ 70403 ∷ 0 ∷
-    -- 81: S N S S, flag, if true s n n
-    53761 ∷ 59138 ∷ 0 ∷
-    -- 84: N N
-    50433 ∷ 0 ∷
-    -- 86: N N
-    67329 ∷ 0 ∷
-    -- 88: from 1.38 S*
-    70913 ∷ 0 ∷
-    -- 90: from 1.38 S*
-    71425 ∷ 0 ∷
-    -- 92: from 1.14 flag with n, from 1.11 n
-    68097 ∷ 0 ∷
-    -- 94: from 1.33 S, from 1.35 N, N
+    -- 16: S* N
+    63233 ∷ 0 ∷
+    -- 18: s* n
+    64001 ∷ 0 ∷
+    -- 20: nothing
+    30465 ∷ 0 ∷
+    -- 22: P
+    73985 ∷ 0 ∷
+    -- 24: N N N N N N N N N N, from 1.10 N, from 1.12 N P
+    27137 ∷ 0 ∷
+    -- 26: n n n n n n n n n n, from 1.10 n, from 1.12 n p
+    30721 ∷ 0 ∷
+    -- 28: N S* N N n n n
+    44545 ∷ 0 ∷
+    -- 30: n s* n n n n n
+    46593 ∷ 0 ∷
+    -- 32: N n n
+    59137 ∷ 0 ∷
+    -- 34: flag, if true S S* N N
+    53362 ∷ 0 ∷
+    -- 36: flag, if true S S S* N N, from 1.16 flag S* S
+    42354 ∷ 0 ∷
+    -- 38: s*
+    74497 ∷ 0 ∷
+    -- 40: count of S S s* n n
+    50279 ∷ 0 ∷
+    -- 42: S*, from 1.27 flag
+    64769 ∷ 0 ∷
+    -- 44: s*, from 1.27 n
+    65537 ∷ 0 ∷
+    -- 46: flag flag
+    66305 ∷ 0 ∷
+    -- 48: n n
+    45825 ∷ 0 ∷
+    -- 50: n s, from 1.29 n n n n, from 1.37 flag with n flag with n, from 1.28 p
+    37377 ∷ 0 ∷
+    -- 52: S S*
+    57345 ∷ 0 ∷
+    -- 54: S s*
+    67073 ∷ 0 ∷
+    -- 56: from 1.23 F
+    75009 ∷ 0 ∷
+    -- 58: S* S* S* N N
+    51713 ∷ 0 ∷
+    -- 60: flag flag F
     60161 ∷ 0 ∷
-    -- 96: F
-    58625 ∷ 0 ∷
-    -- 98: N N N N N N N N N N, from 1.10 N, from 1.12 N P
+    -- 62: S F
+    67841 ∷ 0 ∷
+    -- 64: count of s n s, from 1.29 n n n n, from 1.37 flag with n flag with n, from 1.28 p
+    37123 ∷ 0 ∷
+    -- 66: S S
+    56321 ∷ 0 ∷
+    -- 68: s s
+    68609 ∷ 0 ∷
+    -- 70: below 1.22 S*, from 1.22 P
+    69377 ∷ 0 ∷
+    -- 72: below 1.22 s*, from 1.22 p
+    70145 ∷ 0 ∷
+    -- 74: S, below 1.31 S
+    70913 ∷ 0 ∷
+    -- 76: S, below 1.31 s
+    71681 ∷ 0 ∷
+    -- 78: s
+    55297 ∷ 0 ∷
+    -- 80: n
+    46081 ∷ 0 ∷
+    -- 82: n n n s, count of typed, n
+    54529 ∷ 75523 ∷ 46081 ∷ 0 ∷
+    -- 86: n n, count of typed
+    45825 ∷ 75523 ∷ 0 ∷
+    -- 89: S N S S, flag, if true s n n
+    55809 ∷ 61186 ∷ 0 ∷
+    -- 92: N N
+    52481 ∷ 0 ∷
+    -- 94: N N
+    72449 ∷ 0 ∷
+    -- 96: from 1.38 S*
+    76033 ∷ 0 ∷
+    -- 98: from 1.38 S*
+    76545 ∷ 0 ∷
+    -- 100: from 1.14 flag with n, from 1.11 n
+    73217 ∷ 0 ∷
+    -- 102: from 1.33 S, from 1.35 N, N
+    62209 ∷ 0 ∷
+    -- 104: F
+    60673 ∷ 0 ∷
+    -- 106: N N N N N N N N N N, from 1.10 N, from 1.12 N P
     65 ∷ 129 ∷ 193 ∷ 257 ∷ 321 ∷ 385 ∷ 449 ∷ 513 ∷ 577 ∷ 641 ∷ 168641 ∷ 201473 ∷ 202340 ∷ 0 ∷
-    -- 112: n n n n n n n n n n, from 1.10 n, from 1.12 n p
+    -- 120: n n n n n n n n n n, from 1.10 n, from 1.12 n p
     1 ∷ 1 ∷ 1 ∷ 1 ∷ 1 ∷ 1 ∷ 1 ∷ 1 ∷ 1 ∷ 1 ∷ 167937 ∷ 200705 ∷ 200772 ∷ 0 ∷
-    -- 126: below 1.25 S, from 1.25 S without entry S S S* N N flag S* S
+    -- 134: below 1.25 S, from 1.25 S without entry S S S* N N flag S* S
     417826 ∷ 413714 ∷ 413730 ∷ 413730 ∷ 415331 ∷ 413761 ∷ 413825 ∷ 414657 ∷ 415395 ∷ 413730 ∷ 0 ∷
-    -- 137: s n s, from 1.29 n n n n, from 1.37 flag with n flag with n, from 1.28 p
+    -- 145: s n s, from 1.29 n n n n, from 1.37 flag with n flag with n, from 1.28 p
     2 ∷ 1 ∷ 2 ∷ 479233 ∷ 479233 ∷ 479233 ∷ 479233 ∷ 610310 ∷ 610310 ∷ 462852 ∷ 0 ∷
-    -- 148: below 1.25 S n n s, from 1.25 S s s* n
+    -- 156: below 1.25 S n n s, from 1.25 S s s* n
     417826 ∷ 417793 ∷ 417793 ∷ 417794 ∷ 413730 ∷ 413698 ∷ 413699 ∷ 413697 ∷ 0 ∷
-    -- 157: S S S* N N, from 1.16 flag S* S
+    -- 165: S S S* N N, from 1.16 flag S* S
     34 ∷ 34 ∷ 1635 ∷ 65 ∷ 129 ∷ 267201 ∷ 267939 ∷ 266274 ∷ 0 ∷
-    -- 166: N S* N N n n n
+    -- 174: N S* N N n n n
     65 ∷ 1635 ∷ 129 ∷ 193 ∷ 1 ∷ 1 ∷ 1 ∷ 0 ∷
-    -- 174: n s* n n n n n
+    -- 182: n s* n n n n n
     1 ∷ 3 ∷ 1 ∷ 1 ∷ 1 ∷ 1 ∷ 1 ∷ 0 ∷
-    -- 182: from 1.25 S S S* flag F
+    -- 190: from 1.25 S S S* flag F
     413730 ∷ 413730 ∷ 415331 ∷ 414529 ∷ 413701 ∷ 0 ∷
-    -- 188: S S s* n n
+    -- 196: S S s* n n
     34 ∷ 34 ∷ 3 ∷ 1 ∷ 1 ∷ 0 ∷
-    -- 194: S* S* S* N N
+    -- 202: S* S* S* N N
     1635 ∷ 1699 ∷ 1763 ∷ 65 ∷ 129 ∷ 0 ∷
-    -- 200: S S* N N
+    -- 208: S S* N N
     34 ∷ 1635 ∷ 65 ∷ 129 ∷ 0 ∷
-    -- 205: n n n s
+    -- 213: n n n s
     1 ∷ 1 ∷ 1 ∷ 2 ∷ 0 ∷
-    -- 210: S N S S
+    -- 218: S N S S
     34 ∷ 193 ∷ 34 ∷ 34 ∷ 0 ∷
-    -- 215: S S S*
+    -- 223: S S S*
     34 ∷ 34 ∷ 1635 ∷ 0 ∷
-    -- 219: s s s*
+    -- 227: s s s*
     2 ∷ 2 ∷ 3 ∷ 0 ∷
-    -- 223: N n n
+    -- 231: N n n
     65 ∷ 1 ∷ 1 ∷ 0 ∷
-    -- 227: flag flag F
+    -- 235: flag flag F
     833 ∷ 897 ∷ 5 ∷ 0 ∷
-    -- 231: s n n
+    -- 239: s n n
     2 ∷ 1 ∷ 1 ∷ 0 ∷
-    -- 235: from 1.33 S, from 1.35 N, N
+    -- 243: from 1.33 S, from 1.35 N, N
     544802 ∷ 577857 ∷ 385 ∷ 0 ∷
-    -- 239: S* N
+    -- 247: S* N
     1635 ∷ 65 ∷ 0 ∷
-    -- 242: s* n
+    -- 250: s* n
     67 ∷ 1 ∷ 0 ∷
-    -- 245: S*, from 1.27 flag
+    -- 253: S*, from 1.27 flag
     1635 ∷ 447297 ∷ 0 ∷
-    -- 248: s*, from 1.27 n
+    -- 256: s*, from 1.27 n
     67 ∷ 446465 ∷ 0 ∷
-    -- 251: flag flag
+    -- 259: flag flag
     833 ∷ 897 ∷ 0 ∷
-    -- 254: S s*
+    -- 262: S s*
     34 ∷ 3 ∷ 0 ∷
-    -- 257: S F
+    -- 265: S F
     34 ∷ 5 ∷ 0 ∷
-    -- 260: s s
+    -- 268: s s
     2 ∷ 2 ∷ 0 ∷
-    -- 263: N N
+    -- 271: below 1.22 S*, from 1.22 P
+    370275 ∷ 366180 ∷ 0 ∷
+    -- 274: below 1.22 s*, from 1.22 p
+    368707 ∷ 364612 ∷ 0 ∷
+    -- 277: S, below 1.31 S
+    34 ∷ 516130 ∷ 0 ∷
+    -- 280: S, below 1.31 s
+    34 ∷ 516098 ∷ 0 ∷
+    -- 283: N N
     193 ∷ 257 ∷ 0 ∷
-    -- 266: from 1.14 flag with n, from 1.11 n
+    -- 286: from 1.14 flag with n, from 1.11 n
     233478 ∷ 184321 ∷ 0 ∷
-    -- 269: P
+    -- 289: P
     1636 ∷ 0 ∷
-    -- 271: s*
+    -- 291: s*
     67 ∷ 0 ∷
-    -- 273: from 1.23 F
+    -- 293: from 1.23 F
     380933 ∷ 0 ∷
-    -- 275: typed
+    -- 295: typed
     7 ∷ 0 ∷
-    -- 277: from 1.38 S*
+    -- 297: from 1.38 S*
     628323 ∷ 0 ∷
-    -- 279: from 1.38 S*
+    -- 299: from 1.38 S*
     628387 ∷ 0 ∷
     []
 
@@ -223,45 +239,52 @@ rows =
     op 47 66 68 0 10 1 2 ∷
     []
 
+-- those that published mode has in place of some
+abbrev pub publishedRows : List Row
+publishedRows =
+    op 30 70 72 40 38 3 7 ∷
+    op 42 74 76 1 39 2 0 ∷
+    []
+
 -- the groups of the other layouts
 abbrev pub stringMessage : ℕ
-stringMessage = 70
+stringMessage = 78
 
 abbrev pub numberMessage : ℕ
-numberMessage = 72
+numberMessage = 80
 
 abbrev pub startActivity : ℕ
-startActivity = 74
+startActivity = 82
 
 abbrev pub resultMessage : ℕ
-resultMessage = 78
+resultMessage = 86
 
 abbrev pub errorBlock : ℕ
-errorBlock = 81
+errorBlock = 89
 
 abbrev pub helloClient : ℕ
-helloClient = 84
+helloClient = 92
 
 abbrev pub helloDaemon : ℕ
-helloDaemon = 86
+helloDaemon = 94
 
 abbrev pub featuresClient : ℕ
-featuresClient = 88
+featuresClient = 96
 
 abbrev pub featuresDaemon : ℕ
-featuresDaemon = 90
+featuresDaemon = 98
 
 abbrev pub obsolete : ℕ
-obsolete = 92
+obsolete = 100
 
 abbrev pub info : ℕ
-info = 94
+info = 102
 
 abbrev pub stringSet : ℕ
 stringSet = 4
 
 abbrev pub framedData : ℕ
-framedData = 96
+framedData = 104
 
 abbrev pub nothing : ℕ
 nothing = 1
@@ -284,6 +307,8 @@ kindList =
     byFlag (just 9) (just 10) ∷
     byFlag (byVersion 16 (just 3) (just 4)) (just 5) ∷
     byVersion 23 (just 12) (just 0) ∷
+    byVersion 22 (just 20) (just 19) ∷
+    byVersion 31 (just 16) (just 21) ∷
     []
 
 -- the list under a name that stays shut

@@ -1,9 +1,11 @@
 -- What the packed numbers say, in the words of `layouts`. Past its end the table reads as 0.
 use Prim.Native.Nat.{ℕ, zero, suc, _-_, _/_, _%_}
-use mathlib.Core.List.{List, [], _∷_}
+use mathlib.Core.List.{List, [], _∷_, _++_}
 use mathlib.Core.Bool.{Bool, true, false}
 use lib.ListN.{getD, drop}
 use lib.Dec.{ltb, eqb}
+use Rattle.layouts.specs.declared.Mode.{Mode}
+use Rattle.layouts.specs.declared.Mode.the-variants.{Ported, Published}
 use Rattle.layouts.specs.Primitive.{pick, Version, version}
 use Rattle.layouts.specs.Shape.{Target, dropped, asNumber, asFlag, asCount, asPresence, Role, passed, checked, kept, What, num, str, set, pairs, framed, maybe, typed, Gated, always, from, below, Group, once, opt, many}
 use Rattle.table.specs.declared.Field.{Field}
@@ -12,7 +14,7 @@ use Rattle.table.specs.declared.Row.{Row}
 use Rattle.table.specs.declared.Found.{Found}
 use Rattle.table.specs.declared.Found.the-variants as F
 use Rattle.table.specs.Numbered.{Numbered, just, numberedValue}
-use Rattle.table.specs.Packed.{packedTable, rows, firstCode, kindList}
+use Rattle.table.specs.Packed.{packedTable, rows, publishedRows, firstCode, kindList}
 
 abbrev pub fieldOf : ℕ → Field
 fieldOf x = record { kind = x % 16; role = x / 16 % 4; target = x / 64 % 64; gate = x / 4096 % 4; minor = x / 16384 % 256 }
@@ -84,17 +86,26 @@ unfoldable pub findIn : List Row → (op : ℕ) → Found
 findIn [] op = F.Unknown
 findIn (r ∷ rs) op = pick (eqb (r .number) op) (F.Row r) (findIn rs op)
 
-unfoldable pub rowFor : (op : ℕ) → Found
-rowFor op = findIn rows op
+-- published mode has rows of its own before the others
+abbrev pub rowsIn : Mode → List Row
+rowsIn Ported = rows
+rowsIn Published = publishedRows ++ rows
 
--- the i-th row
+unfoldable pub rowFor : Mode → (op : ℕ) → Found
+rowFor m op = findIn (rowsIn m) op
+
+-- the i-th row of a mode's own
+abbrev pub ownRows : Mode → List Row
+ownRows Ported = rows
+ownRows Published = publishedRows
+
 unfoldable pub rowIn : List Row → (i : ℕ) → Found
 rowIn [] i = F.Unknown
 rowIn (r ∷ rs) zero = F.Row r
 rowIn (r ∷ rs) (suc i) = rowIn rs i
 
-unfoldable pub rowAt : (i : ℕ) → Found
-rowAt i = rowIn rows i
+unfoldable pub rowAt : Mode → (i : ℕ) → Found
+rowAt m i = rowIn (ownRows m) i
 
 -- ---- kinds by code: those of the list from the first code on, and any other code is the kind's number
 unfoldable pub numberedIn : List Numbered → (first code : ℕ) → Numbered

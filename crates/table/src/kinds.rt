@@ -40,6 +40,10 @@ pub const QUERY_SUBSTITUTABLE_PATH_INFO: u8 = 18;
 
 pub const QUERY_SUBSTITUTABLE_PATH_INFOS: u8 = 19;
 
+pub const QUERY_SUBSTITUTABLE_PAIRS: u8 = 20;
+
+pub const REGISTER_DRV_OUTPUT_OLD: u8 = 21;
+
 pub const U64: u8 = 1;
 
 pub const STR: u8 = 2;
@@ -91,3 +95,9 @@ pub const IF_THERE_FROM_16_PATH_INFO_ELSE_PATH_INFO_OLD_ELSE_NO_PATH_INFO: u8 = 
 
 // reply of 38
 pub const FROM_23_FRAMED_ELSE_NONE: u8 = 37;
+
+// arguments of 30 in published mode
+pub const DECIDED_38: u8 = 38;
+
+// arguments of 42 in published mode
+pub const FROM_31_REGISTER_DRV_OUTPUT_ELSE_REGISTER_DRV_OUTPUT_OLD: u8 = 39;

@@ -1,48 +1,48 @@
 // Made by ./tables from crates/layouts/specs and crates/table/specs/Claims.antt: where the groups of each layout begin.
 
 // How many numbers there are. Past its end the table reads as 0, so this is also a place without fields.
-pub const SIZE: usize = 281;
+pub const SIZE: usize = 301;
 
 // ---- the layouts outside of the table of operations
 
 // s
-pub const STRING_MESSAGE: u8 = 70;
+pub const STRING_MESSAGE: u8 = 78;
 
 // n
-pub const NUMBER_MESSAGE: u8 = 72;
+pub const NUMBER_MESSAGE: u8 = 80;
 
 // n n n s, count of typed, n
-pub const START_ACTIVITY: u8 = 74;
+pub const START_ACTIVITY: u8 = 82;
 
 // n n, count of typed
-pub const RESULT_MESSAGE: u8 = 78;
+pub const RESULT_MESSAGE: u8 = 86;
 
 // S N S S, flag, if true s n n
-pub const ERROR_BLOCK: u8 = 81;
+pub const ERROR_BLOCK: u8 = 89;
 
 // N N
-pub const HELLO_CLIENT: u8 = 84;
+pub const HELLO_CLIENT: u8 = 92;
 
 // N N
-pub const HELLO_DAEMON: u8 = 86;
+pub const HELLO_DAEMON: u8 = 94;
 
 // from 1.38 S*
-pub const FEATURES_CLIENT: u8 = 88;
+pub const FEATURES_CLIENT: u8 = 96;
 
 // from 1.38 S*
-pub const FEATURES_DAEMON: u8 = 90;
+pub const FEATURES_DAEMON: u8 = 98;
 
 // from 1.14 flag with n, from 1.11 n
-pub const OBSOLETE: u8 = 92;
+pub const OBSOLETE: u8 = 100;
 
 // from 1.33 S, from 1.35 N, N
-pub const INFO: u8 = 94;
+pub const INFO: u8 = 102;
 
 // S*
 pub const STRING_SET: u8 = 4;
 
 // F
-pub const FRAMED_DATA: u8 = 96;
+pub const FRAMED_DATA: u8 = 104;
 
 // nothing
 pub const NOTHING: u8 = 1;
@@ -78,6 +78,9 @@ pub const A_SET: u8 = 4;
 
 // P
 pub const A_MAP: u8 = 22;
+
+// count of S S s* n n
+pub const SUBSTITUTES: u8 = 40;
 
 // from 1.25 S S S* flag F
 pub const ARGUMENTS_7: u8 = 6;
@@ -121,9 +124,6 @@ pub const REPLY_26: u8 = 36;
 // s*
 pub const SKIPPED_30: u8 = 38;
 
-// count of S S s* n n
-pub const REPLY_30: u8 = 40;
-
 // S*, from 1.27 flag
 pub const ARGUMENTS_31: u8 = 42;
 
@@ -162,3 +162,15 @@ pub const ARGUMENTS_47: u8 = 66;
 
 // s s
 pub const SKIPPED_47: u8 = 68;
+
+// below 1.22 S*, from 1.22 P
+pub const PUBLISHED_ARGUMENTS_30: u8 = 70;
+
+// below 1.22 s*, from 1.22 p
+pub const PUBLISHED_SKIPPED_30: u8 = 72;
+
+// S, below 1.31 S
+pub const PUBLISHED_ARGUMENTS_42: u8 = 74;
+
+// S, below 1.31 s
+pub const PUBLISHED_SKIPPED_42: u8 = 76;

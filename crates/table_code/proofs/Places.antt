@@ -4,10 +4,10 @@ use mathlib.Core.Path.{_≡_, refl}
 use mathlib.Core.List.{List, [], _∷_}
 use native.Mathlib.Nat.{not-suc-le-zero, le-of-suc-le-suc}
 use lib.ListN.{length, getD}
+use Rattle.layouts.specs.declared.Mode.{Mode}
 use Rattle.table.specs.declared.Row.{Row}
 use Rattle.table.specs.declared.Found.the-variants as F
-use Rattle.table.specs.Packed.{rows}
-use Rattle.table.specs.Table.{rowIn, rowAt}
+use Rattle.table.specs.Table.{rowIn, ownRows, rowAt}
 
 row-past : (rs : List Row) (i : ℕ) → length rs ≤ i → F.Unknown ≡ rowIn rs i
 unfolding rowIn
@@ -25,10 +25,11 @@ row-in [] i h = absurd (not-suc-le-zero h)
 row-in (r ∷ rs) zero h = refl
 row-in (r ∷ rs) (suc i) h = row-in rs i (le-of-suc-le-suc h)
 
-pub no-place : (i : ℕ) → length rows ≤ i → F.Unknown ≡ rowAt i
-unfolding rowAt
-no-place i h = row-past rows i h
+module _ {m n : Mode} (e : m ≡ n) (i : ℕ) where
+  pub no-place : length (ownRows n) ≤ i → F.Unknown ≡ rowAt m i
+  unfolding rowAt
+  no-place h = rw e (row-past (ownRows n) i h)
 
-pub a-place : (i : ℕ) → i < length rows → F.Row (getD rows i none) ≡ rowAt i
-unfolding rowAt
-a-place i h = row-in rows i h
+  pub a-place : i < length (ownRows n) → F.Row (getD (ownRows n) i none) ≡ rowAt m i
+  unfolding rowAt
+  a-place h = rw e (row-in (ownRows n) i h)

@@ -6,17 +6,29 @@ ghost use Rattle.table.specs.Table.{rowAt};
 ghost use mathlib.Core.Path.{_≡_};
 ghost use lib.ListN.{getD};
 ghost use Rattle.table.specs.Packed.{packedTable};
+use layouts::Mode;
 use table::Found;
 
-// The constant table is built on the stack where it is read, so the functions of `table_operations` are the way of a call.
-pub fn row_at(i: usize) -> Found
-    ensures { λ r. ⌜ r ≡ rowAt i ⌝ }
+// The i-th of a mode's own rows. A constant table is built on the stack where it is read, so the functions of `table_operations` are the way of a call.
+pub fn row_at(mode: Mode, i: usize) -> Found
+    ensures { λ r. ⌜ r ≡ rowAt mode i ⌝ }
 {
-    if operations::COUNT <= i {
-        return Found::Unknown;
+    match mode {
+        Mode::Ported => {
+            if operations::COUNT <= i {
+                return Found::Unknown;
+            }
+            let all = operations::OPERATIONS;
+            Found::Row(all[i])
+        }
+        Mode::Published => {
+            if operations::PUBLISHED_COUNT <= i {
+                return Found::Unknown;
+            }
+            let all = operations::PUBLISHED;
+            Found::Row(all[i])
+        }
     }
-    let all = operations::OPERATIONS;
-    Found::Row(all[i])
 }
 
 // A group and a field are read from two places of the iterator: so LLVM leaves the match in a function by itself, where it is one load, and the iterator is small

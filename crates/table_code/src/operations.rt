@@ -1,4 +1,4 @@
-// Made by ./tables from crates/layouts/specs and crates/table/specs/Claims.antt: the operations as one constant table.
+// Made by ./tables from crates/layouts/specs and crates/table/specs/Claims.antt: the operations as one constant table, and those that published mode has in place of some.
 use table::Row;
 use table::kinds as kind;
 use table::places as layout;
@@ -201,7 +201,7 @@ pub const OPERATIONS: [Row; COUNT] = [
         number: 30,
         arguments: layout::A_SET,
         skipped: layout::SKIPPED_30,
-        reply: layout::REPLY_30,
+        reply: layout::SUBSTITUTES,
         arguments_kind: kind::QUERY_SUBSTITUTABLE_PATH_INFOS,
         skipped_kind: kind::COUNT_OF_PATHS,
         reply_kind: kind::STRING_MAP,
@@ -375,5 +375,30 @@ pub const OPERATIONS: [Row; COUNT] = [
         arguments_kind: kind::ADD_PERM_ROOT,
         skipped_kind: kind::EMPTY_TEXT,
         reply_kind: kind::STR,
+    },
+];
+
+pub const PUBLISHED_COUNT: usize = 2;
+
+pub const PUBLISHED: [Row; PUBLISHED_COUNT] = [
+    // 30. Arguments: below 1.22 S*, from 1.22 P. Reply: count of S S s* n n
+    Row {
+        number: 30,
+        arguments: layout::PUBLISHED_ARGUMENTS_30,
+        skipped: layout::PUBLISHED_SKIPPED_30,
+        reply: layout::SUBSTITUTES,
+        arguments_kind: kind::DECIDED_38,
+        skipped_kind: kind::COUNT_OF_PATHS,
+        reply_kind: kind::STRING_MAP,
+    },
+    // 42. Arguments: S, below 1.31 S. Reply: nothing
+    Row {
+        number: 42,
+        arguments: layout::PUBLISHED_ARGUMENTS_42,
+        skipped: layout::PUBLISHED_SKIPPED_42,
+        reply: layout::NO_GROUPS,
+        arguments_kind: kind::FROM_31_REGISTER_DRV_OUTPUT_ELSE_REGISTER_DRV_OUTPUT_OLD,
+        skipped_kind: kind::ONE_STRING,
+        reply_kind: kind::NONE,
     },
 ];

@@ -46,6 +46,24 @@ pub fn decided(code: u8, spoken: u64, present: bool) -> u8
             // reply of 38
             since(spoken, 23, kind::FRAMED, kind::NONE)
         }
+        kind::DECIDED_38 => {
+            // arguments of 30 in published mode
+            since(
+                spoken,
+                22,
+                kind::QUERY_SUBSTITUTABLE_PAIRS,
+                kind::QUERY_SUBSTITUTABLE_PATH_INFOS,
+            )
+        }
+        kind::FROM_31_REGISTER_DRV_OUTPUT_ELSE_REGISTER_DRV_OUTPUT_OLD => {
+            // arguments of 42 in published mode
+            since(
+                spoken,
+                31,
+                kind::REGISTER_DRV_OUTPUT,
+                kind::REGISTER_DRV_OUTPUT_OLD,
+            )
+        }
         _ => code,
     }
 }

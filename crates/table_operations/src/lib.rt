@@ -5,10 +5,12 @@ mod rows;
 
 ghost use mathlib.Core.Path.{_≡_};
 ghost use Rattle.table.specs.Table.{rowFor, versionIn, kindNumbered};
-ghost use Rattle.table_operations.specs.Rows.{argumentsOf, skippedOf, replyOf};
+ghost use Rattle.layouts.specs.declared.Mode.the-variants.{Ported};
+ghost use Rattle.table_operations.specs.Rows.{rowOf, argumentsOf, skippedOf, replyOf};
 ghost use Rattle.layouts.specs.Calls.{hasFramed, opHasClientFramedData};
 ghost use Rattle.table_operations.specs.Framed.{meaning};
 ghost use Rattle.layouts.specs.Primitive.{version, atLeast, pick};
+use layouts::Mode;
 use layouts::Refusal;
 pub use table_code::row_at;
 
@@ -20,10 +22,19 @@ pub enum Shape {
 
 // A row is packed as a number: a byte each for the groups of arguments, skipped arguments and reply, and for the kinds of the three; then 1. 0 is no row. A call
 // needs one shape, and a whole row would go through memory.
-pub fn arguments(op: u64) -> Shape
-    ensures { λ r. ⌜ r ≡ argumentsOf (rowFor op) ⌝ }
+fn row_code(mode: Mode, op: u64) -> u64
+    ensures { λ r. ⌜ rowOf op r ≡ rowFor mode op ⌝ }
 {
-    let x = rows::row_code(op);
+    match mode {
+        Mode::Ported => rows::ported(op),
+        Mode::Published => rows::published(op),
+    }
+}
+
+pub fn arguments(mode: Mode, op: u64) -> Shape
+    ensures { λ r. ⌜ r ≡ argumentsOf (rowFor mode op) ⌝ }
+{
+    let x = row_code(mode, op);
     if x == 0 {
         return Shape::Unknown;
     }
@@ -33,10 +44,10 @@ pub fn arguments(op: u64) -> Shape
     }
 }
 
-pub fn skipped(op: u64) -> Shape
-    ensures { λ r. ⌜ r ≡ skippedOf (rowFor op) ⌝ }
+pub fn skipped(mode: Mode, op: u64) -> Shape
+    ensures { λ r. ⌜ r ≡ skippedOf (rowFor mode op) ⌝ }
 {
-    let x = rows::row_code(op);
+    let x = row_code(mode, op);
     if x == 0 {
         return Shape::Unknown;
     }
@@ -46,10 +57,11 @@ pub fn skipped(op: u64) -> Shape
     }
 }
 
+// A reply is the same in both modes.
 pub fn reply(op: u64) -> Shape
-    ensures { λ r. ⌜ r ≡ replyOf (rowFor op) ⌝ }
+    ensures { λ r. ⌜ r ≡ replyOf (rowFor Ported op) ⌝ }
 {
-    let x = rows::row_code(op);
+    let x = rows::ported(op);
     if x == 0 {
         return Shape::Unknown;
     }
@@ -86,7 +98,7 @@ fn has_framed(op: u64) -> bool
 pub fn op_has_client_framed_data(op: u64) -> Framed
     ensures { λ r. ⌜ meaning r ≡ opHasClientFramedData op ⌝ }
 {
-    let found = arguments(op);
+    let found = arguments(Mode::Ported, op);
     match found {
         Shape::Unknown => Framed::Refused(layouts::refuse(layouts::UNKNOWN_OPERATION, 0)),
         Shape::At { first: _, kind: _ } => {

@@ -1,10 +1,11 @@
 // Made by ./tables from crates/layouts/specs and crates/table/specs/Claims.antt: the rows of the operations, by number. A match becomes one load.
 ghost use Rattle.table_operations.specs.Rows.{rowOf};
 ghost use Rattle.table.specs.Table.{rowFor};
+ghost use Rattle.layouts.specs.declared.Mode.the-variants.{Ported, Published};
 ghost use mathlib.Core.Path.{_≡_};
 
-pub fn row_code(op: u64) -> u64
-    ensures { λ r. ⌜ rowOf op r ≡ rowFor op ⌝ }
+pub fn ported(op: u64) -> u64
+    ensures { λ r. ⌜ rowOf op r ≡ rowFor Ported op ⌝ }
 {
     match op {
         1 => 282583095181312,
@@ -45,5 +46,15 @@ pub fn row_code(op: u64) -> u64
         46 => 281487949697552,
         47 => 283678462723138,
         _ => 0,
+    }
+}
+
+pub fn published(op: u64) -> u64
+    ensures { λ r. ⌜ rowOf op r ≡ rowFor Published op ⌝ }
+{
+    match op {
+        30 => 289185083181126,
+        42 => 281484221041738,
+        _ => ported(op),
     }
 }

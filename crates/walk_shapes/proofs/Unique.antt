@@ -13,10 +13,10 @@ use Rattle.walk_shapes.proofs.read_reply.Kinds as read-reply-kinds
 
 pub read-arguments-unique : (κs : Lfts 6) (a : Dens κs read-arguments-kinds.ps) (r r′ : Said) (x x′ : AtExit (endedOf 6 read-arguments-kinds.ps read-arguments-kinds.r) κs)
     → read-arguments.Post κs a r x → read-arguments.Post κs a r′ x′
-    → ((r ≡ r′) × (now (x .1 .1 .1 .1 .1 .1 .1 .0) ≡ now (x′ .1 .1 .1 .1 .1 .1 .1 .0)) × (now (x .1 .1 .1 .1 .1 .1 .1 .1 .0) ≡ now (x′ .1 .1 .1 .1 .1 .1 .1 .1 .0)))
-    × (now (x .1 .1 .1 .1 .0) ≡ now (x′ .1 .1 .1 .1 .0)) × (now (x .1 .1 .1 .1 .1 .0) ≡ now (x′ .1 .1 .1 .1 .1 .0)) × (now (x .1 .1 .1 .1 .1 .1 .0) ≡ now (x′ .1 .1 .1 .1 .1 .1 .0))
+    → ((r ≡ r′) × (now (x .1 .1 .1 .1 .1 .1 .1 .1 .0) ≡ now (x′ .1 .1 .1 .1 .1 .1 .1 .1 .0)) × (now (x .1 .1 .1 .1 .1 .1 .1 .1 .1 .0) ≡ now (x′ .1 .1 .1 .1 .1 .1 .1 .1 .1 .0)))
+    × (now (x .1 .1 .1 .1 .1 .0) ≡ now (x′ .1 .1 .1 .1 .1 .0)) × (now (x .1 .1 .1 .1 .1 .1 .0) ≡ now (x′ .1 .1 .1 .1 .1 .1 .0)) × (now (x .1 .1 .1 .1 .1 .1 .1 .0) ≡ now (x′ .1 .1 .1 .1 .1 .1 .1 .0))
 read-arguments-unique κs a r r′ x x′ p q = (
-  said-told r r′ (now (x .1 .1 .1 .1 .1 .1 .1 .0)) (now (x .1 .1 .1 .1 .1 .1 .1 .1 .0)) (now (x′ .1 .1 .1 .1 .1 .1 .1 .0)) (now (x′ .1 .1 .1 .1 .1 .1 .1 .1 .0)) (p .0 ∙ sym (q .0)),
+  said-told r r′ (now (x .1 .1 .1 .1 .1 .1 .1 .1 .0)) (now (x .1 .1 .1 .1 .1 .1 .1 .1 .1 .0)) (now (x′ .1 .1 .1 .1 .1 .1 .1 .1 .0)) (now (x′ .1 .1 .1 .1 .1 .1 .1 .1 .1 .0)) (p .0 ∙ sym (q .0)),
   p .1 .0 ∙ sym (q .1 .0),
   p .1 .1 .0 ∙ sym (q .1 .1 .0),
   p .1 .1 .1 ∙ sym (q .1 .1 .1),

@@ -3,11 +3,12 @@ use Prim.Native.Nat.{ℕ}
 use mathlib.Core.Path.{_≡_}
 use mathlib.Core.List.{List, []}
 use lib.ListN.{length}
+use Rattle.layouts.specs.declared.Mode.the-variants.{Ported}
 use Rattle.layouts.specs.Primitive.{Version, Result, refused}
 use Rattle.layouts.specs.Pieces.{Pieces, fault}
 use Rattle.layouts.specs.Record.{blank}
 use Rattle.layouts.specs.Judge.{judgeOf, entriesOf, payloadOf}
-use Rattle.layouts.specs.Calls.{Answer}
+use Rattle.layouts.specs.Calls.{Context, Answer}
 use Rattle.walk_items.specs.Items.{versionOf, layoutPieces, piecesOf}
 use Rattle.table.specs.Table.{rowFor}
 use Rattle.walk_judge.specs.declared.Answer as C
@@ -34,11 +35,11 @@ abbrev pub shapeFilled : Version → Shape → (s words bytes payload : List ℕ
 shapeFilled v x s words bytes payload =
     roomsFilled answerAs (shapeRead v x s (slotsIn words bytes) (length payload)) (entriesOf (shapePieces v x s)) (payloadOf s (shapePieces v x s)) words bytes payload
 
-abbrev pub argumentsFilled : (op : ℕ) → Version → (s words bytes payload : List ℕ) → RoomsFilled C.Answer
-argumentsFilled op v s words bytes payload = shapeFilled v (argumentsOf (rowFor op)) s words bytes payload
+abbrev pub argumentsFilled : Context → (s words bytes payload : List ℕ) → RoomsFilled C.Answer
+argumentsFilled c s words bytes payload = shapeFilled (c .spoken) (argumentsOf (rowFor (c .mode) (c .op))) s words bytes payload
 
 abbrev pub replyFilled : (op : ℕ) → Version → (s words bytes payload : List ℕ) → RoomsFilled C.Answer
-replyFilled op v s words bytes payload = shapeFilled v (replyOf (rowFor op)) s words bytes payload
+replyFilled op v s words bytes payload = shapeFilled v (replyOf (rowFor Ported op)) s words bytes payload
 
 -- what is said without a fold is what a read says, whatever the room, and nothing is filled in
 abbrev pub ReadInBrief : (layout code : ℕ) → List ℕ → (numbers counts : List ℕ) → InBrief → Type 0

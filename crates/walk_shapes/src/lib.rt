@@ -3,11 +3,13 @@ ghost use mathlib.Core.Path.{_≡_};
 ghost use mathlib.Core.List.{List};
 ghost use Prim.Native.Nat.{ℕ};
 ghost use Rattle.layouts.specs.Primitive.{version};
+ghost use Rattle.layouts.specs.Calls.{context};
 ghost use Rattle.walk_items.specs.Items.{versionOf, layoutTree, Briefly};
 ghost use Rattle.walk_items.specs.declared.Brief.the-variants as B;
 ghost use Rattle.walk_judge.specs.Judged.{answerOf, answerAs};
 ghost use Rattle.walk_read.specs.Reading.{readBy, answeredAs};
 ghost use Rattle.walk_shapes.specs.Shapes.{ReadInBrief, argumentsFilled, replyFilled};
+use layouts::Mode;
 use numbers::Number;
 use table_operations::Shape;
 use walk_items::Brief;
@@ -90,6 +92,7 @@ fn read_brief(
 
 // An unknown operation is refused before any byte. `read_reply` has the same lines: with one caller each, LLVM puts both into the exported functions.
 pub fn read_arguments(
+    mode: Mode,
     op: u64,
     major: u16,
     minor: u8,
@@ -101,12 +104,12 @@ pub fn read_arguments(
     counts: &mut [u64; 3],
 ) -> Said
     ensures answer { λ r. ⌜ answerOf r (now (numbers .exit)) (now (counts .exit))
-        ≡ argumentsFilled op (version major minor) (now (s .entry)) (now (words .entry)) (now (bytes .entry)) (now (payload .entry)) .answer ⌝ }
-    ensures words { λ r. ⌜ now (words .exit) ≡ argumentsFilled op (version major minor) (now (s .entry)) (now (words .entry)) (now (bytes .entry)) (now (payload .entry)) .words ⌝ }
-    ensures bytes { λ r. ⌜ now (bytes .exit) ≡ argumentsFilled op (version major minor) (now (s .entry)) (now (words .entry)) (now (bytes .entry)) (now (payload .entry)) .bytes ⌝ }
-    ensures payload { λ r. ⌜ now (payload .exit) ≡ argumentsFilled op (version major minor) (now (s .entry)) (now (words .entry)) (now (bytes .entry)) (now (payload .entry)) .payload ⌝ }
+        ≡ argumentsFilled (context mode op (version major minor)) (now (s .entry)) (now (words .entry)) (now (bytes .entry)) (now (payload .entry)) .answer ⌝ }
+    ensures words { λ r. ⌜ now (words .exit) ≡ argumentsFilled (context mode op (version major minor)) (now (s .entry)) (now (words .entry)) (now (bytes .entry)) (now (payload .entry)) .words ⌝ }
+    ensures bytes { λ r. ⌜ now (bytes .exit) ≡ argumentsFilled (context mode op (version major minor)) (now (s .entry)) (now (words .entry)) (now (bytes .entry)) (now (payload .entry)) .bytes ⌝ }
+    ensures payload { λ r. ⌜ now (payload .exit) ≡ argumentsFilled (context mode op (version major minor)) (now (s .entry)) (now (words .entry)) (now (bytes .entry)) (now (payload .entry)) .payload ⌝ }
 {
-    let shape = table_operations::arguments(op);
+    let shape = table_operations::arguments(mode, op);
     match shape {
         Shape::Unknown => walk_judge::refuse(
             layouts::refuse(layouts::UNKNOWN_OPERATION, 0),

@@ -12,6 +12,7 @@ use Rattle.layouts.specs.declared.Refusal.{Refusal}
 use Rattle.layouts.specs.Primitive.{pick, Version, littleAt, numberAt, unknownOperation, noArguments, Result, ok, refused, onward}
 use Rattle.layouts.specs.Refusal.{plain, refusedBy}
 use Rattle.layouts.specs.Shape.{What, Group}
+use Rattle.layouts.specs.Calls.{Context}
 use Rattle.layouts.specs.Judge.{lentAfter}
 use Rattle.layouts.specs.CallWriter.{fieldsThere, callFields, shapeBytes, callBytes, writeBytes, writeOpArgs}
 use Rattle.table.specs.declared.PackedGroup.{PackedGroup}
@@ -69,19 +70,22 @@ begins v i x e =
     ∙ ap (λ (j : ℕ). fieldsThere v (itemsAt j)) (sym (ap (λ (y : I.Item). y .pc) e ∙ pc-by (eqb (groupAt i .kind) 1) _ _))
 
 -- ---- by the row
-module _ (op : ℕ) (v : Version) (ns b es p lent : List ℕ) (y : Shape) (e : y ≡ argumentsOf (rowFor op)) where
-  abbrev Answer : Result ℕ → List ℕ → Type 0
-  Answer o lent' = (o ≡ writeBytes (callBytes op v ns b es p) lent) × (lent' ≡ afterBytes (callBytes op v ns b es p) lent)
+module _ (c : Context) (ns b es p lent : List ℕ) (y : Shape) (e : y ≡ argumentsOf (rowFor (c .mode) (c .op))) where
+  abbrev v : Version
+  v = c .spoken
 
-  by-fields : (r : Result (List What)) → callFields op v ≡ r → callBytes op v ns b es p ≡ onward r (λ ws. shapeBytes ns b es p ws)
+  abbrev Answer : Result ℕ → List ℕ → Type 0
+  Answer o lent' = (o ≡ writeBytes (callBytes c ns b es p) lent) × (lent' ≡ afterBytes (callBytes c ns b es p) lent)
+
+  by-fields : (r : Result (List What)) → callFields c ≡ r → callBytes c ns b es p ≡ onward r (λ ws. shapeBytes ns b es p ws)
   unfolding callBytes
   by-fields r q = ap (λ (x : Result (List What)). onward x (λ ws. shapeBytes ns b es p ws)) q
 
-  stays : (n : ℕ) → callBytes op v ns b es p ≡ refused n 0 0 → (r : Refusal) → r ≡ plain n 0 → Answer (refusedBy r) lent
+  stays : (n : ℕ) → callBytes c ns b es p ≡ refused n 0 0 → (r : Refusal) → r ≡ plain n 0 → Answer (refusedBy r) lent
   stays n q r f = rw (q, f) (refl, refl)
 
   pub call-unknown : y ≡ Unknown → (r : Refusal) → r ≡ plain unknownOperation 0 → Answer (refusedBy r) lent
-  call-unknown q r f = stays unknownOperation (by-fields _ (shape-refuses op y _ _ e q .call v)) r f
+  call-unknown q r f = stays unknownOperation (by-fields _ (shape-refuses (c .mode) (c .op) y _ _ e q .call v)) r f
 
   module _ (i k : ℕ) (q : y ≡ At i k) (l : ℕ) (w : (versionOf l ≡ v) × (firstOf l ≡ i)) (s : ℕ) (es# : s ≡ spokenOf l) (n : ℕ) (en : n ≡ kindNumbered (versionIn s) false k) where
     kind-is : n ≡ kindNumbered v false k
@@ -90,7 +94,7 @@ module _ (op : ℕ) (v : Version) (ns b es p lent : List ℕ) (y : Shape) (e : y
     pub call-none : n ≡ 0 → (r : Refusal) → r ≡ plain noArguments 0 → Answer (refusedBy r) lent
     call-none z r f =
         let h : kindNumbered v false k ≡ 0 = sym kind-is ∙ z in
-        stays noArguments (by-fields (refused noArguments 0 0) (call-says op y i k e q v ∙ rw (eq-eqb (kindNumbered v false k) 0 h))) r f
+        stays noArguments (by-fields (refused noArguments 0 0) (call-says (c .mode) (c .op) y i k e q v ∙ rw (eq-eqb (kindNumbered v false k) 0 h))) r f
 
     pub call-fields : (n ≡ 0 → ⊥) → (x : I.Item) → x ≡ beginItem (firstOf l) → (o : Result ℕ) (lent' : List ℕ)
         → (o ≡ writeBytes (shapeBytes ns b es p (fieldsAt l (x .pc))) lent) × (lent' ≡ afterBytes (shapeBytes ns b es p (fieldsAt l (x .pc))) lent) → Answer o lent'
@@ -98,24 +102,24 @@ module _ (op : ℕ) (v : Version) (ns b es p lent : List ℕ) (y : Shape) (e : y
         let h : kindNumbered v false k ≡ 0 → ⊥ = λ g. z (kind-is ∙ g) in
         let g : firstFields v (groupsAt i) ≡ fieldsAt l (x .pc) =
         begins v i x (f ∙ ap beginItem (w .1)) ∙ ap (λ (u : Version). fieldsThere u (itemsAt (x .pc))) (sym (w .0)) in
-        let c : callFields op v ≡ ok (fieldsAt l (x .pc)) =
-        call-says op y i k e q v ∙ ap (λ (t : Bool). pick t (refused noArguments 0 0) (ok (firstFields v (groupsAt i)))) (ne-eqb (kindNumbered v false k) 0 h) ∙ ap ok g in
-        rw (by-fields (ok (fieldsAt l (x .pc))) c) a
+        let d : callFields c ≡ ok (fieldsAt l (x .pc)) =
+        call-says (c .mode) (c .op) y i k e q v ∙ ap (λ (t : Bool). pick t (refused noArguments 0 0) (ok (firstFields v (groupsAt i)))) (ne-eqb (kindNumbered v false k) 0 h) ∙ ap ok g in
+        rw (by-fields (ok (fieldsAt l (x .pc))) d) a
 
 -- ---- with entries in one form, and the numbers from where they stand
-module _ (op : ℕ) (v : Version) (ns ns' b p lent lent' : List ℕ) (o : Result ℕ) where
+module _ (c : Context) (ns ns' b p lent lent' : List ℕ) (o : Result ℕ) where
   abbrev Written# : (es : List ℕ) → Type 0
-  Written# es = (o ≡ callWritten op v ns' b es p lent .answer) × (lent' ≡ callWritten op v ns' b es p lent .lent)
+  Written# es = (o ≡ callWritten c ns' b es p lent .answer) × (lent' ≡ callWritten c ns' b es p lent .lent)
 
-  by-numbers : (es : List ℕ) → (o ≡ writeBytes (callBytes op v ns b es p) lent) × (lent' ≡ afterBytes (callBytes op v ns b es p) lent) → ns ≡ ns' → Written# es
+  by-numbers : (es : List ℕ) → (o ≡ writeBytes (callBytes c ns b es p) lent) × (lent' ≡ afterBytes (callBytes c ns b es p) lent) → ns ≡ ns' → Written# es
   unfolding callWritten writeOpArgs
   by-numbers es a e = rw (← e) a
 
-  pub by-words : (es : List ℕ) → (o ≡ writeBytes (callBytes op v ns b (numbersIn es []) p) lent) × (lent' ≡ afterBytes (callBytes op v ns b (numbersIn es []) p) lent)
+  pub by-words : (es : List ℕ) → (o ≡ writeBytes (callBytes c ns b (numbersIn es []) p) lent) × (lent' ≡ afterBytes (callBytes c ns b (numbersIn es []) p) lent)
       → ns ≡ ns' → Written# es
   by-words es a e = subst Written# (with-words es) (by-numbers (numbersIn es []) a e)
 
-  pub by-bytes : (es : List ℕ) → (o ≡ writeBytes (callBytes op v ns b (numbersIn [] es) p) lent) × (lent' ≡ afterBytes (callBytes op v ns b (numbersIn [] es) p) lent)
+  pub by-bytes : (es : List ℕ) → (o ≡ writeBytes (callBytes c ns b (numbersIn [] es) p) lent) × (lent' ≡ afterBytes (callBytes c ns b (numbersIn [] es) p) lent)
       → ns ≡ ns' → Written# (entriesIn es)
   by-bytes es a e = subst Written# (with-bytes es) (by-numbers (numbersIn [] es) a e)
 
@@ -137,8 +141,8 @@ pub record-numbers : (ns cs : List ℕ) → length ns ≡ 12 → length cs ≡ 3
 record-numbers ns cs h g = ap (λ (l : List ℕ). l ++ reads 3 0 cs) (reads-rest 12 0 ns (omega arith)) ∙ ap (λ (l : List ℕ). ns ++ l) (reads-rest 3 0 cs (omega arith))
 
 -- what is answered, by the definition
-pub call-answers : (op : ℕ) (v : Version) (ns b es p lent lent' : List ℕ) (o : Result ℕ)
-    → (o ≡ callWritten op v ns b es p lent .answer) × (lent' ≡ callWritten op v ns b es p lent .lent)
-    → (o ≡ writeOpArgs op v ns b es p lent) × (lent' ≡ lentAfter (writeOpArgs op v ns b es p lent) (bytesOr (callBytes op v ns b es p)) lent)
+pub call-answers : (c : Context) (ns b es p lent lent' : List ℕ) (o : Result ℕ)
+    → (o ≡ callWritten c ns b es p lent .answer) × (lent' ≡ callWritten c ns b es p lent .lent)
+    → (o ≡ writeOpArgs c ns b es p lent) × (lent' ≡ lentAfter (writeOpArgs c ns b es p lent) (bytesOr (callBytes c ns b es p)) lent)
 unfolding callWritten writeOpArgs
-call-answers op v ns b es p lent lent' o a = a
+call-answers c ns b es p lent lent' o a = a

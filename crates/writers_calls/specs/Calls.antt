@@ -5,9 +5,10 @@ use mathlib.Core.List.{List, [], _∷_, _++_}
 use lib.ListN.{length}
 use lib.Dec.{eqb}
 use Rattle.layouts.specs.declared.Record.{Record}
-use Rattle.layouts.specs.Primitive.{pick, numberBytes, Version, Result, ok, refused}
+use Rattle.layouts.specs.Primitive.{pick, numberBytes, Result, ok, refused}
 use Rattle.layouts.specs.Judge.{lentAfter}
 use Rattle.layouts.specs.Shape.{What}
+use Rattle.layouts.specs.Calls.{Context}
 use Rattle.layouts.specs.Writers.{slotsOf, stringsBytes, framedBytes, writing}
 use Rattle.layouts.specs.CallWriter.{stringsIn, entriesFor, fieldBytes, shapeBytes, callBytes, writeBytes, writeOpArgs}
 use Rattle.writers_sets.specs.Sets.{partsFrom}
@@ -51,8 +52,8 @@ pub record Call : Type 0 where
   pub answer : Result ℕ
   pub lent : List ℕ
 
-unfoldable pub callWritten : (op : ℕ) → Version → (numbers bytes entries payload lent : List ℕ) → Call
-callWritten op v ns bytes es p lent = record { answer = writeOpArgs op v ns bytes es p lent; lent = afterBytes (callBytes op v ns bytes es p) lent }
+unfoldable pub callWritten : Context → (numbers bytes entries payload lent : List ℕ) → Call
+callWritten c ns bytes es p lent = record { answer = writeOpArgs c ns bytes es p lent; lent = afterBytes (callBytes c ns bytes es p) lent }
 
 -- the numbers of a record
 abbrev pub fifteen : Record → List ℕ

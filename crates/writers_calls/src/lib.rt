@@ -6,6 +6,7 @@ ghost use Prim.Native.Nat.{_+_, _*_, _≤_, _<_};
 ghost use lib.ListN.{length, getD};
 ghost use Rattle.layouts.specs.Primitive.{version, littleAt, numberAt};
 ghost use Rattle.layouts.specs.Writers.{framedBytes};
+ghost use Rattle.layouts.specs.Calls.{context};
 ghost use Rattle.layouts.specs.CallWriter.{shapeBytes, callBytes, writeBytes};
 ghost use Rattle.walk_items.specs.Items.{versionOf};
 ghost use Rattle.entries.specs.Entries.{numbersFrom, entriesIn, numbersIn};
@@ -13,6 +14,7 @@ ghost use Rattle.writers_output.specs.Answer.{meaning};
 ghost use Rattle.writers_output.specs.Placed.{placed};
 ghost use Rattle.writers_fields.specs.Fields.{fieldsAt, stringsAfter};
 ghost use Rattle.writers_calls.specs.Calls.{numberBy, framesBy, itemBytes, fieldsFrom, Planned, usedOr, afterBytes, fifteen, callWritten};
+use layouts::Mode;
 use layouts::Record;
 use numbers::Number;
 use table_operations::Shape;
@@ -162,6 +164,7 @@ fn write_fields(
 }
 
 fn write(
+    mode: Mode,
     op: u64,
     major: u16,
     minor: u8,
@@ -173,11 +176,11 @@ fn write(
     out: &mut [u8],
 ) -> Written
     ensures answer { λ r. ⌜ meaning r
-        ≡ writeBytes (callBytes op (version major minor) (now (numbers .entry)) (now (s .entry)) (numbersIn (now (words .entry)) (now (bytes .entry))) (now (payload .entry))) (now (out .entry)) ⌝ }
+        ≡ writeBytes (callBytes (context mode op (version major minor)) (now (numbers .entry)) (now (s .entry)) (numbersIn (now (words .entry)) (now (bytes .entry))) (now (payload .entry))) (now (out .entry)) ⌝ }
     ensures lent { λ r. ⌜ now (out .exit)
-        ≡ afterBytes (callBytes op (version major minor) (now (numbers .entry)) (now (s .entry)) (numbersIn (now (words .entry)) (now (bytes .entry))) (now (payload .entry))) (now (out .entry)) ⌝ }
+        ≡ afterBytes (callBytes (context mode op (version major minor)) (now (numbers .entry)) (now (s .entry)) (numbersIn (now (words .entry)) (now (bytes .entry))) (now (payload .entry))) (now (out .entry)) ⌝ }
 {
-    match table_operations::arguments(op) {
+    match table_operations::arguments(mode, op) {
         Shape::Unknown => Written::Refused(layouts::refuse(layouts::UNKNOWN_OPERATION, 0)),
         Shape::At { first, kind } => {
             let layout = walk_items::layout(major, minor, first);
@@ -191,6 +194,7 @@ fn write(
 }
 
 pub fn write_op_args(
+    mode: Mode,
     op: u64,
     major: u16,
     minor: u8,
@@ -200,8 +204,8 @@ pub fn write_op_args(
     payload: &[u8],
     out: &mut [u8],
 ) -> Written
-    ensures answer { λ r. ⌜ meaning r ≡ callWritten op (version major minor) (fifteen «record») (now (bytes .entry)) (now (entries .entry)) (now (payload .entry)) (now (out .entry)) .answer ⌝ }
-    ensures lent { λ r. ⌜ now (out .exit) ≡ callWritten op (version major minor) (fifteen «record») (now (bytes .entry)) (now (entries .entry)) (now (payload .entry)) (now (out .entry)) .lent ⌝ }
+    ensures answer { λ r. ⌜ meaning r ≡ callWritten (context mode op (version major minor)) (fifteen «record») (now (bytes .entry)) (now (entries .entry)) (now (payload .entry)) (now (out .entry)) .answer ⌝ }
+    ensures lent { λ r. ⌜ now (out .exit) ≡ callWritten (context mode op (version major minor)) (fifteen «record») (now (bytes .entry)) (now (entries .entry)) (now (payload .entry)) (now (out .entry)) .lent ⌝ }
 {
     let n = record.numbers;
     let c = record.counts;
@@ -224,6 +228,7 @@ pub fn write_op_args(
     ];
     let none: [u8; 0] = [];
     write(
+        mode,
         op,
         major,
         minor,
@@ -278,6 +283,7 @@ fn number_or_low(s: &[u8], at: usize) -> u64
 
 // The same with entries of sixteen bytes, and with the numbers as an answer block has them.
 pub fn write_op_args_bytes(
+    mode: Mode,
     op: u64,
     major: u16,
     minor: u8,
@@ -288,9 +294,9 @@ pub fn write_op_args_bytes(
     out: &mut [u8],
 ) -> Written
     ensures answer { λ r. ⌜ meaning r
-        ≡ callWritten op (version major minor) (numbersFrom 15 0 (now («record» .entry))) (now (bytes .entry)) (entriesIn (now (entries .entry))) (now (payload .entry)) (now (out .entry)) .answer ⌝ }
+        ≡ callWritten (context mode op (version major minor)) (numbersFrom 15 0 (now («record» .entry))) (now (bytes .entry)) (entriesIn (now (entries .entry))) (now (payload .entry)) (now (out .entry)) .answer ⌝ }
     ensures lent { λ r. ⌜ now (out .exit)
-        ≡ callWritten op (version major minor) (numbersFrom 15 0 (now («record» .entry))) (now (bytes .entry)) (entriesIn (now (entries .entry))) (now (payload .entry)) (now (out .entry)) .lent ⌝ }
+        ≡ callWritten (context mode op (version major minor)) (numbersFrom 15 0 (now («record» .entry))) (now (bytes .entry)) (entriesIn (now (entries .entry))) (now (payload .entry)) (now (out .entry)) .lent ⌝ }
 {
     let numbers = [
         number_or_low(record, 0),
@@ -311,6 +317,7 @@ pub fn write_op_args_bytes(
     ];
     let none: [u64; 0] = [];
     write(
+        mode,
         op,
         major,
         minor,

@@ -6,7 +6,7 @@
 //!
 //! A reader takes the part of a stream that starts where the last call ended, and answers with what it read and where that ended, or with a
 //! [`Refusal`]: a number, a place in that part, and for a handshake the stream. An operation is its number; one that the library does not know is
-//! refused by 9. [`write_op_args`] is the other way for calls.
+//! refused by 9. [`write_op_args`] is the other way for calls. What reads, skips or writes arguments takes a [`Mode`] first.
 //!
 //! ```
 //! use lintelow::{read_daemon_result, ResultData, Version};
@@ -57,5 +57,5 @@ pub use read::{
     parse_daemon_handshake, parse_handshake, read_daemon_result, read_op_args, read_stderr_loop, read_stderr_with_error, skip_daemon_result,
     skip_op_args, with_room,
 };
-pub use types::{ErrorInfo, HandshakeInfo, OpCall, PathInfoResult, ResultData, SkippedArgs, StderrCode, StderrResult, Version};
+pub use types::{ErrorInfo, HandshakeInfo, Mode, OpCall, PathInfoResult, ResultData, SkippedArgs, StderrCode, StderrResult, Version};
 pub use write::write_op_args;

@@ -10,7 +10,7 @@
 //! - It writes all 200 bytes of a block that has as many, whatever it answers, so that nobody has to clear one before.
 //! - The declarations are those of `include/lintelow.h`.
 use crate::answer::{Answer, Refusal};
-use crate::types::Version;
+use crate::types::{Mode, Version};
 use block::Block;
 
 mod block;
@@ -21,6 +21,7 @@ pub use wire::*;
 
 extern "C" {
     fn lintelow_write_op_args(
+        mode: u8,
         op: u64,
         major: u16,
         minor: u8,
@@ -61,11 +62,12 @@ extern "C" {
     ) -> u64;
 }
 
-/// Readers by operation and version.
+/// Readers by operation and version, and of arguments by mode.
 macro_rules! of_an_operation {
-    ($($(#[$doc:meta])* $name:ident = $function:ident;)*) => {
+    ($($(#[$doc:meta])* $name:ident($($mode:ident)?) = $function:ident;)*) => {
         extern "C" {
             $(fn $function(
+                $($mode: u8,)?
                 op: u64,
                 major: u16,
                 minor: u8,
@@ -81,13 +83,20 @@ macro_rules! of_an_operation {
         }
         $($(#[$doc])*
         #[inline]
-        pub fn $name<'r>(op: u64, version: Version, s: &[u8], entries: &'r mut [u8], payload: &'r mut [u8]) -> Result<Answer<'r>, Refusal> {
+        pub fn $name<'r>(
+            $($mode: Mode,)?
+            op: u64,
+            version: Version,
+            s: &[u8],
+            entries: &'r mut [u8],
+            payload: &'r mut [u8],
+        ) -> Result<Answer<'r>, Refusal> {
             let Version { major, minor } = version;
             // SAFETY: as said above.
             let block = unsafe {
                 Block::of(|block, length| {
                     let (room, bytes) = (entries.as_mut_ptr(), payload.as_mut_ptr());
-                    $function(op, major, minor, s.as_ptr(), s.len(), room, entries.len(), bytes, payload.len(), block, length)
+                    $function($($mode as u8,)? op, major, minor, s.as_ptr(), s.len(), room, entries.len(), bytes, payload.len(), block, length)
                 })
             };
             block.answer(entries, payload)
@@ -97,23 +106,23 @@ macro_rules! of_an_operation {
 
 of_an_operation! {
     /// The arguments of an operation, from the client's stream.
-    read_op_args = lintelow_read_op_args;
+    read_op_args(mode) = lintelow_read_op_args;
     /// The reply to an operation, from the daemon's stream.
-    read_daemon_result = lintelow_read_daemon_result;
+    read_daemon_result() = lintelow_read_daemon_result;
 }
 
-/// Skippers by operation and version.
+/// Skippers by operation and version, and of arguments by mode.
 macro_rules! past_an_operation {
-    ($($(#[$doc:meta])* $name:ident = $function:ident;)*) => {
+    ($($(#[$doc:meta])* $name:ident($($mode:ident)?) = $function:ident;)*) => {
         extern "C" {
-            $(fn $function(op: u64, major: u16, minor: u8, s: *const u8, s_len: usize, block: *mut u8, block_len: usize) -> u64;)*
+            $(fn $function($($mode: u8,)? op: u64, major: u16, minor: u8, s: *const u8, s_len: usize, block: *mut u8, block_len: usize) -> u64;)*
         }
         $($(#[$doc])*
         #[inline]
-        pub fn $name(op: u64, version: Version, s: &[u8]) -> Result<Answer<'static>, Refusal> {
+        pub fn $name($($mode: Mode,)? op: u64, version: Version, s: &[u8]) -> Result<Answer<'static>, Refusal> {
             let Version { major, minor } = version;
             // SAFETY: as said above.
-            let block = unsafe { Block::of(|block, length| $function(op, major, minor, s.as_ptr(), s.len(), block, length)) };
+            let block = unsafe { Block::of(|block, length| $function($($mode as u8,)? op, major, minor, s.as_ptr(), s.len(), block, length)) };
             block.answer(&[], &[])
         })*
     };
@@ -121,16 +130,18 @@ macro_rules! past_an_operation {
 
 past_an_operation! {
     /// The arguments of an operation passed over, up to framed data. Of kind 2 the string is the answer's own entry.
-    skip_op_args = lintelow_skip_op_args;
+    skip_op_args(mode) = lintelow_skip_op_args;
     /// The reply to an operation passed over.
-    skip_daemon_result = lintelow_skip_daemon_result;
+    skip_daemon_result() = lintelow_skip_daemon_result;
 }
 
-/// The arguments of an operation, written from what [`read_op_args`] answers: the record ([`Answer::record`]), the strings that entries have in `bytes`,
-/// and the payload. What a shorter record lacks is 0, and what lies beyond [`RECORD`] bytes is not looked at. `end` is how many bytes; the payload is what
-/// was written. Refused by 9, 13, 14, 11, then for each entry 12 and 3, then 10; include/lintelow.h has their places.
+/// The arguments of an operation, written from what [`read_op_args`] answers in that mode: the record ([`Answer::record`]), the strings that entries have
+/// in `bytes`, and the payload. What a shorter record lacks is 0, and what lies beyond [`RECORD`] bytes is not looked at. `end` is how many bytes; the
+/// payload is what was written. Refused by 9, 13, 14, 11, then for each entry 12 and 3, then 10; include/lintelow.h has their places.
+#[allow(clippy::too_many_arguments)] // those of the exported function
 #[inline]
 pub fn write_op_args<'r>(
+    mode: Mode,
     op: u64,
     version: Version,
     record: &[u8],
@@ -144,6 +155,7 @@ pub fn write_op_args<'r>(
     let block = unsafe {
         Block::of(|block, length| {
             lintelow_write_op_args(
+                mode as u8,
                 op,
                 major,
                 minor,

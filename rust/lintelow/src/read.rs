@@ -4,16 +4,34 @@ use crate::raw;
 use crate::types::*;
 
 /// The arguments of an operation, from the client's stream, and their end. `None`: arguments that are not read; nothing was consumed.
-pub fn read_op_args(op: u64, version: Version, stream: &[u8]) -> Result<(Option<OpCall>, usize), Refusal> {
+///
+/// ```
+/// use lintelow::{read_op_args, skip_op_args, Mode, OpCall, SkippedArgs, Version};
+///
+/// // QuerySubstitutablePathInfos, operation 30, of one path: to a daemon a pair, the path and its content address, both empty here.
+/// let stream = [1u64, 0, 0].map(u64::to_le_bytes).concat();
+/// let version = Version::new(1, 38);
+/// let pairs = OpCall::QuerySubstitutablePairs { pairs: vec![("".into(), "".into())] };
+/// assert_eq!(read_op_args(Mode::Published, 30, version, &stream)?, (Some(pairs), 24));
+/// assert_eq!(skip_op_args(Mode::Published, 30, version, &stream)?, (SkippedArgs::Paths(1), 24));
+///
+/// // To nix-wire it is a set, and the stream goes on with what is the content address.
+/// let set = OpCall::QuerySubstitutablePathInfos { paths: vec!["".into()] };
+/// assert_eq!(read_op_args(Mode::Ported, 30, version, &stream)?, (Some(set), 16));
+/// assert_eq!(skip_op_args(Mode::Ported, 30, version, &stream)?, (SkippedArgs::Paths(1), 16));
+/// # Ok::<(), lintelow::Refusal>(())
+/// ```
+pub fn read_op_args(mode: Mode, op: u64, version: Version, stream: &[u8]) -> Result<(Option<OpCall>, usize), Refusal> {
     with_room(stream.len(), |entries, payload| {
-        let answer = raw::read_op_args(op, version, stream, entries, payload)?;
+        let answer = raw::read_op_args(mode, op, version, stream, entries, payload)?;
         Ok((op_call(op, stream, &answer), answer.end))
     })
 }
 
-/// The arguments of an operation passed over, up to framed data, and where that is.
-pub fn skip_op_args(op: u64, version: Version, stream: &[u8]) -> Result<(SkippedArgs<'_>, usize), Refusal> {
-    let answer = raw::skip_op_args(op, version, stream)?;
+/// The arguments of an operation passed over, up to framed data, and where that is. In [`Mode::Published`] the pairs of operation 30 count as paths, and
+/// of 42's two strings the first is answered and the second not looked at.
+pub fn skip_op_args(mode: Mode, op: u64, version: Version, stream: &[u8]) -> Result<(SkippedArgs<'_>, usize), Refusal> {
+    let answer = raw::skip_op_args(mode, op, version, stream)?;
     let skipped = match answer.kind {
         0 => SkippedArgs::None,
         1 => SkippedArgs::Empty,
@@ -173,6 +191,8 @@ fn op_call(op: u64, stream: &[u8], answer: &Answer) -> Option<OpCall> {
         17 => OpCall::QueryRealisation { value: strings.one() },
         18 => OpCall::QuerySubstitutablePathInfo { path: strings.one() },
         19 => OpCall::QuerySubstitutablePathInfos { paths: strings.set(count) },
+        20 => OpCall::QuerySubstitutablePairs { pairs: strings.pairs(count) },
+        21 => OpCall::RegisterDrvOutputOld { id: strings.one(), path: strings.one() },
         kind => unreachable!("the library has no kind {kind} of arguments"),
     })
 }

@@ -1,5 +1,5 @@
 //! What streams say, under nix-wire's names. Where nix-wire has an `Op` there is the operation's number, where it has `FramedData` the bytes, and for
-//! a build's mode its number.
+//! a build's mode its number. The two variants of [`OpCall`] that only [`Mode::Published`] has are ours.
 use std::fmt;
 
 /// A version of the protocol; they compare by major, then minor.
@@ -19,6 +19,17 @@ impl fmt::Display for Version {
     fn fmt(&self, f: &mut fmt::Formatter) -> fmt::Result {
         write!(f, "{}.{}", self.major, self.minor)
     }
+}
+
+/// Whose layouts arguments have. They differ in two operations: there daemons read more than nix-wire, which loses the stream.
+#[derive(Debug, Clone, Copy, PartialEq, Eq, Hash)]
+#[repr(u8)]
+pub enum Mode {
+    /// Those of nix-wire.
+    Ported = 0,
+    /// Those that daemons read: 30 has pairs from 1.22 on, in place of a set ([`OpCall::QuerySubstitutablePairs`]), and 42 has two strings below 1.31, in
+    /// place of one ([`OpCall::RegisterDrvOutputOld`]).
+    Published = 1,
 }
 
 /// An operation with its arguments.
@@ -116,6 +127,15 @@ pub enum OpCall {
     QuerySubstitutablePathInfos {
         paths: Vec<String>,
     },
+    /// Of operation 30 in [`Mode::Published`], from 1.22 on: paths, each with its content address.
+    QuerySubstitutablePairs {
+        pairs: Vec<(String, String)>,
+    },
+    /// Of operation 42 in [`Mode::Published`], below 1.31.
+    RegisterDrvOutputOld {
+        id: String,
+        path: String,
+    },
 }
 
 impl OpCall {
@@ -133,10 +153,10 @@ impl OpCall {
             OpCall::SetOptions { .. } => 19,
             OpCall::CollectGarbage { .. } => 20,
             OpCall::QuerySubstitutablePathInfo { .. } => 21,
-            OpCall::QuerySubstitutablePathInfos { .. } => 30,
+            OpCall::QuerySubstitutablePathInfos { .. } | OpCall::QuerySubstitutablePairs { .. } => 30,
             OpCall::VerifyStore { .. } => 35,
             OpCall::AddSignatures { .. } => 37,
-            OpCall::RegisterDrvOutput { .. } => 42,
+            OpCall::RegisterDrvOutput { .. } | OpCall::RegisterDrvOutputOld { .. } => 42,
             OpCall::QueryRealisation { .. } => 43,
             OpCall::AddMultipleToStore { .. } => 44,
             OpCall::AddBuildLog { .. } => 45,

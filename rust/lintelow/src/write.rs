@@ -2,27 +2,35 @@
 use crate::answer::{record, Refusal};
 use crate::raw;
 use crate::read::read_op_args;
-use crate::types::{OpCall, Version};
+use crate::types::{Mode, OpCall, Version};
 use crate::wire::{joined, try_append};
 
 const NO_SUCH_ENTRY: u64 = 11;
 const NOT_OF_SHAPE: Refusal = Refusal { number: 14, place: 0, stream: 0 };
 
-/// The arguments of a call, as [`read_op_args`] reads them at this version; the operation's number ([`OpCall::op`]) stands before them on the stream.
+/// The arguments of a call, as [`read_op_args`] reads them in this mode at this version; the operation's number ([`OpCall::op`]) stands before them on
+/// the stream.
 ///
 /// Refused by 9 where there is no such operation, by 13 where no arguments are known for it, and by 14 where they would not read back to the same call:
-/// the operation has another kind of arguments, the version lacks what is said, or a string is too long to be read.
+/// the operation has another kind of arguments in this mode at this version, the version lacks what is said, or a string is too long to be read.
 ///
 /// ```
-/// use lintelow::{read_op_args, write_op_args, OpCall, Version};
+/// use lintelow::{read_op_args, write_op_args, Mode, OpCall, Version};
 ///
 /// let (call, version) = (OpCall::SinglePath { op: 1, path: "/nix/store/bin".into() }, Version::new(1, 38));
-/// let arguments = write_op_args(&call, version)?;
+/// let arguments = write_op_args(Mode::Published, &call, version)?;
 /// assert_eq!(arguments, b"\x0e\0\0\0\0\0\0\0/nix/store/bin\0\0");
-/// assert_eq!(read_op_args(1, version, &arguments)?, (Some(call), arguments.len()));
+/// assert_eq!(read_op_args(Mode::Published, 1, version, &arguments)?, (Some(call), arguments.len()));
+///
+/// // RegisterDrvOutput, below 1.31, is two strings to a daemon and one to nix-wire: the other mode has no such call.
+/// let (call, version) = (OpCall::RegisterDrvOutputOld { id: "id".into(), path: "path".into() }, Version::new(1, 30));
+/// let arguments = write_op_args(Mode::Published, &call, version)?;
+/// assert_eq!(arguments, b"\x02\0\0\0\0\0\0\0id\0\0\0\0\0\0\x04\0\0\0\0\0\0\0path\0\0\0\0");
+/// assert_eq!(read_op_args(Mode::Ported, 42, version, &arguments)?, (Some(OpCall::RegisterDrvOutput { value: "id".into() }), 16));
+/// assert_eq!(write_op_args(Mode::Ported, &call, version).unwrap_err().number, 14);
 /// # Ok::<(), lintelow::Refusal>(())
 /// ```
-pub fn write_op_args(call: &OpCall, version: Version) -> Result<Vec<u8>, Refusal> {
+pub fn write_op_args(mode: Mode, call: &OpCall, version: Version) -> Result<Vec<u8>, Refusal> {
     let op = call.op();
     let Parts { numbers, count, strings, payload } = Parts::of(call);
     let record = record(&numbers, &[count, 0, 0]);
@@ -30,12 +38,12 @@ pub fn write_op_args(call: &OpCall, version: Version) -> Result<Vec<u8>, Refusal
     // Of a string there are a length and padding besides, of 32768 bytes of payload a length; the last length is 0.
     let room = record.len() + bytes.len() + entries.len() + payload.len() + payload.len() / 32768 * 8 + 16;
     let mut out = Vec::new();
-    match try_append(&mut out, room, |room| raw::write_op_args(op, version, &record, &bytes, &entries, payload, room)) {
+    match try_append(&mut out, room, |room| raw::write_op_args(mode, op, version, &record, &bytes, &entries, payload, room)) {
         // Every string of the call has its entry, so arguments that ask for more are of another kind.
         Err(Refusal { number: NO_SUCH_ENTRY, .. }) => return Err(NOT_OF_SHAPE),
         written => written?,
     }
-    match read_op_args(op, version, &out) {
+    match read_op_args(mode, op, version, &out) {
         Ok((Some(read), end)) if read == *call && end == out.len() => Ok(out),
         _ => Err(NOT_OF_SHAPE),
     }
@@ -107,6 +115,8 @@ impl<'c> Parts<'c> {
             OpCall::QueryRealisation { value } => parts.string(value),
             OpCall::QuerySubstitutablePathInfo { path } => parts.string(path),
             OpCall::QuerySubstitutablePathInfos { paths } => parts.set(paths),
+            OpCall::QuerySubstitutablePairs { pairs } => parts.pairs(pairs),
+            OpCall::RegisterDrvOutputOld { id, path } => parts.string(id).string(path),
         }
     }
 

@@ -6,6 +6,7 @@ use lintelow::*;
 
 const NEW: Version = Version::new(1, 38);
 const OLD: Version = Version::new(1, 9);
+const MODES: [Mode; 2] = [Mode::Ported, Mode::Published];
 
 fn owned(list: &[&str]) -> Vec<String> {
     list.iter().map(|text| text.to_string()).collect()
@@ -15,6 +16,7 @@ fn refused(number: u64, place: usize, stream: u64) -> Refusal {
     Refusal { number, place, stream }
 }
 
+/// The kinds that both modes have at 1.38.
 #[test]
 fn arguments_of_every_kind() {
     let [a, b, c] = ["alpha", "", "gamma"].map(String::from);
@@ -46,13 +48,84 @@ fn arguments_of_every_kind() {
         (42, string("alpha"), OpCall::RegisterDrvOutput { value: a.clone() }),
         (43, string("alpha"), OpCall::QueryRealisation { value: a.clone() }),
         (21, string("alpha"), OpCall::QuerySubstitutablePathInfo { path: a.clone() }),
-        (30, pq.clone(), OpCall::QuerySubstitutablePathInfos { paths: paths() }),
     ];
-    for (op, stream, expected) in cases {
-        assert_eq!(read_op_args(op, NEW, &[&stream[..], b"more"].concat()), Ok((Some(expected), stream.len())));
+    for mode in MODES {
+        for (op, stream, expected) in &cases {
+            assert_eq!(read_op_args(mode, *op, NEW, &[&stream[..], b"more"].concat()), Ok((Some(expected.clone()), stream.len())));
+        }
+        assert_eq!(read_op_args(mode, 36, NEW, b"unread"), Ok((None, 0)));
+        assert_eq!(read_op_args(mode, 7, Version::new(1, 24), b"unread"), Ok((None, 0)));
     }
-    assert_eq!(read_op_args(36, NEW, b"unread"), Ok((None, 0)));
-    assert_eq!(read_op_args(7, Version::new(1, 24), b"unread"), Ok((None, 0)));
+}
+
+#[test]
+fn arguments_by_mode() {
+    let [p, ca] = ["/nix/store/p", "fixed:out:sha256:ab"];
+    let stream = [numbers(&[2]), string(p), string(ca), string("q"), string("")].concat();
+    let pairs = vec![(p.to_string(), ca.to_string()), ("q".to_string(), String::new())];
+    let set = || (OpCall::QuerySubstitutablePathInfos { paths: owned(&[p, ca]) }, 64);
+    for (mode, minor, (call, end)) in [
+        (Mode::Ported, 21, set()),
+        (Mode::Ported, 22, set()),
+        (Mode::Published, 21, set()),
+        (Mode::Published, 22, (OpCall::QuerySubstitutablePairs { pairs }, stream.len())),
+    ] {
+        assert_eq!(read_op_args(mode, 30, Version::new(1, minor), &stream), Ok((Some(call), end)), "{mode:?}, 1.{minor}");
+        assert_eq!(skip_op_args(mode, 30, Version::new(1, minor), &stream), Ok((SkippedArgs::Paths(2), end)), "{mode:?}, 1.{minor}");
+    }
+
+    let stream = [string("sha256:ab!out"), string("ab-out")].concat();
+    let one = || (OpCall::RegisterDrvOutput { value: "sha256:ab!out".into() }, 24);
+    for (mode, minor, (call, end)) in [
+        (Mode::Ported, 30, one()),
+        (Mode::Ported, 31, one()),
+        (Mode::Published, 30, (OpCall::RegisterDrvOutputOld { id: "sha256:ab!out".into(), path: "ab-out".into() }, stream.len())),
+        (Mode::Published, 31, one()),
+    ] {
+        assert_eq!(read_op_args(mode, 42, Version::new(1, minor), &stream), Ok((Some(call), end)), "{mode:?}, 1.{minor}");
+        assert_eq!(skip_op_args(mode, 42, Version::new(1, minor), &stream), Ok((SkippedArgs::Str("sha256:ab!out"), end)), "{mode:?}, 1.{minor}");
+    }
+}
+
+/// Read, every string is text; skipped, only the one that is answered.
+#[test]
+fn text_by_mode() {
+    let (first, second) = (numbers(&[1, 0xff, 0]), numbers(&[0, 1, 0xff]));
+    let old = Version::new(1, 30);
+    for mode in MODES {
+        assert_eq!(read_op_args(mode, 42, old, &first), Err(refused(3, 8, 0)));
+        assert_eq!(skip_op_args(mode, 42, old, &first), Err(refused(3, 8, 0)));
+    }
+    assert_eq!(read_op_args(Mode::Published, 42, old, &second), Err(refused(3, 16, 0)));
+    assert_eq!(skip_op_args(Mode::Published, 42, old, &second), Ok((SkippedArgs::Str(""), 24)));
+    assert_eq!(skip_op_args(Mode::Published, 42, old, &second[..23]), Err(refused(1, 17, 0)));
+    for pair in [first, second] {
+        let stream = [numbers(&[1]), pair].concat();
+        let bad = stream.iter().position(|&byte| byte == 0xff).unwrap();
+        assert_eq!(read_op_args(Mode::Published, 30, NEW, &stream), Err(refused(3, bad, 0)));
+        assert_eq!(skip_op_args(Mode::Published, 30, NEW, &stream), Ok((SkippedArgs::Paths(1), 32)));
+    }
+}
+
+/// The modes differ in 30 from 1.22 on and in 42 below 1.31, and in nothing else.
+#[test]
+fn modes_differ_in_two_operations() {
+    // Every count is 1, every string one character, every flag true.
+    let ones = numbers(&[1; 64]);
+    for op in 0..=48 {
+        for (major, minor) in (0..=2).flat_map(|major| (0..=255).map(move |minor| (major, minor))) {
+            let version = Version::new(major, minor);
+            let differ = match op {
+                30 => version >= Version::new(1, 22),
+                42 => version < Version::new(1, 31),
+                _ => false,
+            };
+            let [ported, published] = MODES.map(|mode| read_op_args(mode, op, version, &ones));
+            assert_eq!(ported != published, differ, "operation {op} at {version}, read");
+            let [ported, published] = MODES.map(|mode| skip_op_args(mode, op, version, &ones));
+            assert_eq!(ported != published, differ, "operation {op} at {version}, skipped");
+        }
+    }
 }
 
 #[test]
@@ -74,8 +147,8 @@ fn options_are_in_their_order() {
         overrides,
     };
     let pair = ("cores".to_string(), "4".to_string());
-    assert_eq!(read_op_args(19, NEW, &stream), Ok((Some(options(11, 12, vec![pair])), 136)));
-    assert_eq!(read_op_args(19, OLD, &stream), Ok((Some(options(0, 0, vec![])), 80)));
+    assert_eq!(read_op_args(Mode::Published, 19, NEW, &stream), Ok((Some(options(11, 12, vec![pair])), 136)));
+    assert_eq!(read_op_args(Mode::Published, 19, OLD, &stream), Ok((Some(options(0, 0, vec![])), 80)));
 }
 
 #[test]
@@ -135,16 +208,18 @@ fn replies_of_every_kind() {
 fn skipped_arguments_of_every_kind() {
     let first = [string("name"), numbers(&[0, 0]), string("sha256")].concat();
     let options = [numbers(&[0; 12]), numbers(&[1]), string("k"), string("v")].concat();
-    let text = |op, version, stream: &[u8]| skip_op_args(op, version, stream).map(|(args, end)| (args.text(), end));
     let said = |text: &str, end| Ok((Some(text.to_string()), end));
-    assert_eq!(skip_op_args(39, NEW, &first), Ok((SkippedArgs::None, 0)));
-    assert_eq!(skip_op_args(13, NEW, &first), Ok((SkippedArgs::Empty, 0)));
-    assert_eq!(skip_op_args(7, Version::new(1, 24), &first), Ok((SkippedArgs::Str("name"), first.len())));
-    assert_eq!(text(39, NEW, &first), Ok((None, 0)));
-    assert_eq!(text(13, NEW, &first), said("", 0));
-    assert_eq!(text(1, NEW, &first), said("name", 16));
-    assert_eq!(text(32, NEW, &set(&["a", "b"])), said("2 paths", 40));
-    assert_eq!(text(19, NEW, &options), said("1 overrides", 136));
+    for mode in MODES {
+        let text = |op, version, stream: &[u8]| skip_op_args(mode, op, version, stream).map(|(args, end)| (args.text(), end));
+        assert_eq!(skip_op_args(mode, 39, NEW, &first), Ok((SkippedArgs::None, 0)));
+        assert_eq!(skip_op_args(mode, 13, NEW, &first), Ok((SkippedArgs::Empty, 0)));
+        assert_eq!(skip_op_args(mode, 7, Version::new(1, 24), &first), Ok((SkippedArgs::Str("name"), first.len())));
+        assert_eq!(text(39, NEW, &first), Ok((None, 0)));
+        assert_eq!(text(13, NEW, &first), said("", 0));
+        assert_eq!(text(1, NEW, &first), said("name", 16));
+        assert_eq!(text(32, NEW, &set(&["a", "b"])), said("2 paths", 40));
+        assert_eq!(text(19, NEW, &options), said("1 overrides", 136));
+    }
 }
 
 #[test]
@@ -199,17 +274,19 @@ fn handshakes() {
 fn refusals_have_number_and_place() {
     let limit = 268435456;
     let bad_text = [numbers(&[1]), b"\xff\0\0\0\0\0\0\0".to_vec()].concat();
-    let op_1 = |stream: &[u8]| read_op_args(1, NEW, stream).unwrap_err();
+    let op_1 = |stream: &[u8]| read_op_args(Mode::Published, 1, NEW, stream).unwrap_err();
     assert_eq!(op_1(b"1234567"), refused(1, 0, 0));
     assert_eq!(op_1(&numbers(&[limit + 1])), refused(2, 0, 0));
     assert_eq!(op_1(&numbers(&[limit])), refused(1, 8, 0));
     assert_eq!(op_1(&bad_text), refused(3, 8, 0));
-    assert_eq!(skip_op_args(1, NEW, &bad_text), Err(refused(3, 8, 0)));
+    assert_eq!(skip_op_args(Mode::Published, 1, NEW, &bad_text), Err(refused(3, 8, 0)));
     assert_eq!(skip_daemon_result(18, NEW, &bad_text), Ok(16));
     assert_eq!(read_daemon_result(6, NEW, &numbers(&[u64::MAX])), Err(refused(1, 8, 0)));
     for op in [0, 2, 48, u64::MAX] {
-        assert_eq!(read_op_args(op, NEW, &[]), Err(refused(9, 0, 0)));
-        assert_eq!(skip_op_args(op, NEW, &[]), Err(refused(9, 0, 0)));
+        for mode in MODES {
+            assert_eq!(read_op_args(mode, op, NEW, &[]), Err(refused(9, 0, 0)));
+            assert_eq!(skip_op_args(mode, op, NEW, &[]), Err(refused(9, 0, 0)));
+        }
         assert_eq!(read_daemon_result(op, NEW, &[]), Err(refused(9, 0, 0)));
         assert_eq!(skip_daemon_result(op, NEW, &[]), Err(refused(9, 0, 0)));
     }
@@ -225,8 +302,8 @@ fn bad_text_is_refused_where_text_ends() {
     type Reader = fn(&[u8]) -> Option<Refusal>;
     // What stands before the string, and the stream.
     let readers: [(Vec<u8>, u64, Reader); 9] = [
-        (string("suffix"), 0, |s| read_op_args(8, NEW, s).err()),
-        (vec![], 0, |s| skip_op_args(1, NEW, s).err()),
+        (string("suffix"), 0, |s| read_op_args(Mode::Published, 8, NEW, s).err()),
+        (vec![], 0, |s| skip_op_args(Mode::Published, 1, NEW, s).err()),
         ([numbers(&[2]), string("first")].concat(), 0, |s| read_daemon_result(6, NEW, s).err()),
         ([numbers(&[0x63787470]), string("Error"), numbers(&[0]), string("name")].concat(), 0, |s| read_stderr_with_error(s).err()),
         (numbers(&[HELLO, 0x126, 1]), 0, |s| parse_handshake(s, &numbers(&[REPLY, 0x126])).err()),
@@ -272,7 +349,7 @@ fn room_grows_to_what_is_there() {
 
     let path = "p".repeat(20_000);
     let stream = [string(&path), framed(&[&chunk])].concat();
-    assert_eq!(read_op_args(45, NEW, &stream), Ok((Some(OpCall::AddBuildLog { path, data: chunk }), stream.len())));
+    assert_eq!(read_op_args(Mode::Published, 45, NEW, &stream), Ok((Some(OpCall::AddBuildLog { path, data: chunk }), stream.len())));
 }
 
 #[test]
@@ -302,9 +379,11 @@ fn a_refusal_leaves_lent_room_as_it_was() {
 
 #[test]
 fn nothing_is_read_and_lent() {
-    let none = Answer { kind: 6, end: 0, end2: 0, numbers: [0; 12], counts: [0; 3], ..raw::skip_op_args(13, NEW, &[]).unwrap() };
-    assert_eq!(raw::read_op_args(13, NEW, &[], &mut [], &mut []), Ok(none));
-    assert_eq!(raw::skip_op_args(13, NEW, &[]), Ok(Answer { kind: 1, ..none }));
+    let none = Answer { kind: 6, end: 0, end2: 0, numbers: [0; 12], counts: [0; 3], ..raw::skip_op_args(Mode::Published, 13, NEW, &[]).unwrap() };
+    for mode in MODES {
+        assert_eq!(raw::read_op_args(mode, 13, NEW, &[], &mut [], &mut []), Ok(none));
+        assert_eq!(raw::skip_op_args(mode, 13, NEW, &[]), Ok(Answer { kind: 1, ..none }));
+    }
     assert_eq!(raw::read_daemon_result(42, NEW, &[], &mut [], &mut []), Ok(Answer { kind: 0, ..none }));
     assert_eq!(raw::skip_daemon_result(42, NEW, &[]), Ok(Answer { kind: 0, ..none }));
     assert_eq!(raw::read_stderr_loop(&[]), Ok(Answer { kind: 0, ..none }));
@@ -317,7 +396,7 @@ fn nothing_is_read_and_lent() {
 #[test]
 fn every_version_is_an_input() {
     for version in [Version::new(0, 255), Version::new(2, 0), Version::new(65535, 255)] {
-        let (call, end) = read_op_args(19, version, &numbers(&[0; 13])).unwrap();
+        let (call, end) = read_op_args(Mode::Published, 19, version, &numbers(&[0; 13])).unwrap();
         assert!(matches!(call, Some(OpCall::SetOptions { .. })));
         assert_eq!(end, if version.major == 0 { 80 } else { 104 });
     }

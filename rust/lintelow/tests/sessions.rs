@@ -1,4 +1,4 @@
-//! Two recorded sessions between a Nix client and its daemon, read from the first byte of both streams to the last.
+//! Recorded sessions between a Nix client and its daemon, read from the first byte of both streams to the last.
 use lintelow::*;
 use std::fs;
 use std::path::Path;
@@ -9,7 +9,7 @@ fn streams(name: &str) -> (Vec<u8>, Vec<u8>) {
     (read("client.bin"), read("daemon.bin"))
 }
 
-/// The handshake, then each operation's arguments with its reply, until the client says no more.
+/// The handshake, then each operation's arguments, as daemons read them, with its reply, until the client says no more.
 fn converse(client: &[u8], daemon: &[u8]) -> (HandshakeInfo, Vec<(Option<OpCall>, ResultData)>) {
     let (info, mut said, mut answered) = parse_handshake(client, daemon).unwrap();
     let version = info.negotiated_version;
@@ -17,7 +17,7 @@ fn converse(client: &[u8], daemon: &[u8]) -> (HandshakeInfo, Vec<(Option<OpCall>
     while said < client.len() {
         let op = u64::from_le_bytes(client[said..said + 8].try_into().unwrap());
         said += 8;
-        let (call, length) = read_op_args(op, version, &client[said..]).unwrap();
+        let (call, length) = read_op_args(Mode::Published, op, version, &client[said..]).unwrap();
         said += length;
 
         let (stderr, error, length) = read_stderr_with_error(&daemon[answered..]).unwrap();
@@ -73,6 +73,47 @@ fn path_infos_by_nix_2_8() {
     assert_eq!(info.deriver.as_deref(), Some("/nix/store/15hv9nmmgcn7il0dabpa3gmqxld60mgs-trivial.drv"));
     assert_eq!(info.references.as_deref(), Some(&[][..]));
     assert_eq!((info.ultimate, info.ca.as_deref()), (Some(true), Some("")));
+}
+
+/// From 1.22 on QuerySubstitutablePathInfos is asked by pairs, below it by a set.
+#[test]
+fn substitutes_by_nix_2_26_and_2_8() {
+    let nope = "/nix/store/aaaaaaaaaaaaaaaaaaaaaaaaaaaaaaaa-nope";
+    let (client, daemon) = streams("n226-mix2-2");
+    let (info, calls) = converse(&client, &daemon);
+    assert_eq!(info.negotiated_version, Version::new(1, 38));
+    let pairs = vec![(nope.to_string(), String::new())];
+    assert_eq!(calls[2], (Some(OpCall::QuerySubstitutablePairs { pairs }), ResultData::StringMap(vec![])));
+    // Its arguments are the last 72 bytes; the empty content address is left over where they are read as a set.
+    let set = OpCall::QuerySubstitutablePathInfos { paths: vec![nope.to_string()] };
+    assert_eq!(read_op_args(Mode::Ported, 30, info.negotiated_version, &client[288..]), Ok((Some(set), 64)));
+    assert_eq!(skip_op_args(Mode::Ported, 30, info.negotiated_version, &client[288..]), Ok((SkippedArgs::Paths(1), 64)));
+    assert_eq!(skip_op_args(Mode::Published, 30, info.negotiated_version, &client[288..]), Ok((SkippedArgs::Paths(1), 72)));
+
+    let (client, daemon) = streams("n28-mix2-0");
+    let (info, calls) = converse(&client, &daemon);
+    assert_eq!(info.negotiated_version, Version::new(1, 18));
+    let paths = vec!["/nix/store/pczmyy74v7nix6zir6hbarllxr5swa31-dep".to_string()];
+    assert_eq!(calls[2].0, Some(OpCall::QuerySubstitutablePathInfos { paths }));
+    for mode in [Mode::Ported, Mode::Published] {
+        assert_eq!(read_op_args(mode, 30, info.negotiated_version, &client[296..]), Ok((calls[2].0.clone(), 64)));
+    }
+}
+
+/// Below 1.31 RegisterDrvOutput has two strings.
+#[test]
+fn a_realisation_at_1_29() {
+    let (client, daemon) = streams("n28c29-cacopyng-0");
+    let (info, calls) = converse(&client, &daemon);
+    assert_eq!(info.negotiated_version, Version::new(1, 29));
+    let id = "sha256:ae4772cfcc6fdc6cdd82506a52c6a68aced109969728e183ec5c64f1d2faa1ff!out";
+    let old = OpCall::RegisterDrvOutputOld { id: id.into(), path: "ajfb0lab79m6lk7ch0qaw1y5sqrxqnpw-cadep".into() };
+    assert_eq!(calls[1], (Some(old), ResultData::None));
+    // Its arguments are the last 136 bytes; the second string is left over where they are read as one.
+    let one = OpCall::RegisterDrvOutput { value: id.into() };
+    assert_eq!(read_op_args(Mode::Ported, 42, info.negotiated_version, &client[184..]), Ok((Some(one), 88)));
+    assert_eq!(skip_op_args(Mode::Ported, 42, info.negotiated_version, &client[184..]), Ok((SkippedArgs::Str(id), 88)));
+    assert_eq!(skip_op_args(Mode::Published, 42, info.negotiated_version, &client[184..]), Ok((SkippedArgs::Str(id), 136)));
 }
 
 #[test]

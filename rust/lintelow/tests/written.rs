@@ -6,18 +6,23 @@ use lintelow::*;
 
 const NEW: Version = Version::new(1, 38);
 const OLD: Version = Version::new(1, 9);
+const MODES: [Mode; 2] = [Mode::Ported, Mode::Published];
 /// Versions on both sides of every gate, and beyond all of them.
-const VERSIONS: [Version; 13] = [
+const VERSIONS: [Version; 17] = [
     Version::new(0, 0),
     Version::new(0, 255),
     OLD,
     Version::new(1, 10),
     Version::new(1, 11),
     Version::new(1, 12),
+    Version::new(1, 21),
+    Version::new(1, 22),
     Version::new(1, 24),
     Version::new(1, 25),
     Version::new(1, 26),
     Version::new(1, 27),
+    Version::new(1, 30),
+    Version::new(1, 31),
     NEW,
     Version::new(2, 0),
     Version::new(65535, 255),
@@ -28,7 +33,7 @@ fn refused(number: u64, place: usize) -> Refusal {
 }
 
 /// A call of every operation whose arguments are known at a version, with the bytes that they are.
-fn calls(version: Version) -> Vec<(OpCall, Vec<u8>)> {
+fn calls(mode: Mode, version: Version) -> Vec<(OpCall, Vec<u8>)> {
     let from = |minor| version >= Version::new(1, minor);
     let [a, b, c] = ["alpha", "", "stra\u{df}e"];
     let paths = || vec!["p".to_string(), "quebec".to_string()];
@@ -97,32 +102,47 @@ fn calls(version: Version) -> Vec<(OpCall, Vec<u8>)> {
         [numbers(&[1, 0]), chunks.clone()].concat(),
     ));
     calls.push((OpCall::AddBuildLog { path: b.into(), data: vec![] }, [string(b), framed(&[])].concat()));
-    calls.push((OpCall::RegisterDrvOutput { value: a.into() }, string(a)));
     calls.push((OpCall::QueryRealisation { value: a.into() }, string(a)));
     calls.push((OpCall::QuerySubstitutablePathInfo { path: a.into() }, string(a)));
-    calls.push((OpCall::QuerySubstitutablePathInfos { paths: paths() }, pq));
+    calls.push(if mode == Mode::Published && from(22) {
+        let pairs = vec![(a.into(), b.into()), (b.into(), c.into())];
+        (OpCall::QuerySubstitutablePairs { pairs }, [numbers(&[2]), string(a), string(b), string(b), string(c)].concat())
+    } else {
+        (OpCall::QuerySubstitutablePathInfos { paths: paths() }, pq)
+    });
+    calls.push(if mode == Mode::Published && !from(31) {
+        (OpCall::RegisterDrvOutputOld { id: a.into(), path: c.into() }, [string(a), string(c)].concat())
+    } else {
+        (OpCall::RegisterDrvOutput { value: a.into() }, string(a))
+    });
     calls
 }
 
 /// What the library reads from zeros: a call of that operation with everything 0 or empty.
-fn of_zeros(op: u64, version: Version) -> Result<Option<OpCall>, Refusal> {
-    read_op_args(op, version, &[0; 256]).map(|(call, _)| call)
+fn of_zeros(mode: Mode, op: u64, version: Version) -> Result<Option<OpCall>, Refusal> {
+    read_op_args(mode, op, version, &[0; 256]).map(|(call, _)| call)
+}
+
+/// Each mode at each version.
+fn every_gate() -> impl Iterator<Item = (Mode, Version)> {
+    MODES.into_iter().flat_map(|mode| VERSIONS.map(|version| (mode, version)))
 }
 
 #[test]
 fn every_operation_at_every_gate() {
-    for version in VERSIONS {
+    for (mode, version) in every_gate() {
         let mut written = Vec::new();
-        for (call, expected) in calls(version) {
-            let arguments = write_op_args(&call, version).unwrap_or_else(|refusal| panic!("{call:?} at {version}: {refusal}"));
-            assert!(arguments == expected, "operation {} at {version}", call.op());
+        for (call, expected) in calls(mode, version) {
+            let op = call.op();
+            let arguments = write_op_args(mode, &call, version).unwrap_or_else(|refusal| panic!("{call:?}, {mode:?} at {version}: {refusal}"));
+            assert!(arguments == expected, "operation {op}, {mode:?} at {version}");
             let longer = [&arguments[..], b"more"].concat();
-            assert!(read_op_args(call.op(), version, &longer) == Ok((Some(call.clone()), arguments.len())), "operation {} at {version}", call.op());
-            written.push(call.op());
+            assert!(read_op_args(mode, op, version, &longer) == Ok((Some(call), arguments.len())), "operation {op}, {mode:?} at {version}");
+            written.push(op);
         }
         written.sort();
-        let known: Vec<u64> = (0..=100).filter(|&op| matches!(of_zeros(op, version), Ok(Some(_)))).collect();
-        assert_eq!(written, known, "at {version}");
+        let known: Vec<u64> = (0..=100).filter(|&op| matches!(of_zeros(mode, op, version), Ok(Some(_)))).collect();
+        assert_eq!(written, known, "{mode:?} at {version}");
     }
 }
 
@@ -138,21 +158,53 @@ fn another_kind_is_refused() {
         |op| OpCall::NoArgs { op },
     ];
     let mut refusals = [0; 15];
-    for version in VERSIONS {
+    for (mode, version) in every_gate() {
         for op in 0..=48 {
             for call in kinds.map(|kind| kind(op)) {
-                let expected = match of_zeros(op, version) {
+                let expected = match of_zeros(mode, op, version) {
                     Ok(Some(known)) if known == call => Ok(()),
                     Ok(Some(_)) => Err(refused(14, 0)),
                     Ok(None) => Err(refused(13, 0)),
                     Err(refusal) => Err(refusal),
                 };
-                assert_eq!(write_op_args(&call, version).map(|_| ()), expected, "{call:?} at {version}");
+                assert_eq!(write_op_args(mode, &call, version).map(|_| ()), expected, "{call:?}, {mode:?} at {version}");
                 refusals[expected.map_or_else(|refusal| refusal.number as usize, |_| 0)] += 1;
             }
         }
     }
     assert!([0, 9, 13, 14].iter().all(|&number| refusals[number] > 0), "{refusals:?}");
+}
+
+/// A set is never written where pairs are read, nor one string where two are; nor the other way round, also where there is nothing to be seen in the bytes.
+#[test]
+fn what_the_mode_lacks_is_refused() {
+    let text = |length: usize| "p".repeat(length);
+    let mut calls = Vec::new();
+    for count in 0..=4 {
+        calls.push(OpCall::QuerySubstitutablePathInfos { paths: (0..count).map(text).collect() });
+        calls.push(OpCall::QuerySubstitutablePairs { pairs: (0..count).map(|length| (text(length), String::new())).collect() });
+        calls.push(OpCall::RegisterDrvOutput { value: text(count) });
+        calls.push(OpCall::RegisterDrvOutputOld { id: text(count), path: text(4 - count) });
+    }
+    for (mode, version) in every_gate() {
+        for call in &calls {
+            let pairs = mode == Mode::Published && version >= Version::new(1, 22);
+            let old = mode == Mode::Published && version < Version::new(1, 31);
+            let there = match call {
+                OpCall::QuerySubstitutablePathInfos { .. } => !pairs,
+                OpCall::QuerySubstitutablePairs { .. } => pairs,
+                OpCall::RegisterDrvOutput { .. } => !old,
+                _ => old,
+            };
+            match write_op_args(mode, call, version) {
+                Ok(arguments) => {
+                    assert!(there, "{call:?}, {mode:?} at {version}");
+                    assert_eq!(read_op_args(mode, call.op(), version, &arguments), Ok((Some(call.clone()), arguments.len())));
+                }
+                Err(refusal) => assert_eq!((refusal, there), (refused(14, 0), false), "{call:?}, {mode:?} at {version}"),
+            }
+        }
+    }
 }
 
 #[test]
@@ -186,12 +238,12 @@ fn what_the_version_lacks_is_refused() {
         (27, OpCall::PathSetFlag { op: 31, paths: vec![], substitute: true }),
     ];
     for (minor, call) in cases {
-        assert!(write_op_args(&call, Version::new(1, minor)).is_ok(), "{call:?}");
-        assert_eq!(write_op_args(&call, Version::new(1, minor - 1)), Err(refused(14, 0)), "{call:?}");
+        assert!(write_op_args(Mode::Published, &call, Version::new(1, minor)).is_ok(), "{call:?}");
+        assert_eq!(write_op_args(Mode::Published, &call, Version::new(1, minor - 1)), Err(refused(14, 0)), "{call:?}");
     }
-    assert_eq!(write_op_args(&no_options(), OLD), Ok(vec![0; 80]));
+    assert_eq!(write_op_args(Mode::Published, &no_options(), OLD), Ok(vec![0; 80]));
     let added = OpCall::AddToStore { name: "n".into(), cam_str: String::new(), refs: vec![], repair: false, data: vec![] };
-    assert_eq!(write_op_args(&added, Version::new(1, 24)), Err(refused(13, 0)));
+    assert_eq!(write_op_args(Mode::Published, &added, Version::new(1, 24)), Err(refused(13, 0)));
 }
 
 /// A record of numbers by their slots, 12 to 14 for the counts.
@@ -203,11 +255,18 @@ fn record(slots: &[(usize, u64)]) -> Vec<u8> {
 
 const COUNT: usize = 12;
 
-/// What the library says, and that it writes all that it reports and nothing else.
+/// What the library says at 1.38, which is the same in both modes but for operation 30.
 fn written(op: u64, record: &[u8], bytes: &[u8], entries: &[u8], payload: &[u8], room: usize) -> Result<Vec<u8>, Refusal> {
+    let [ported, published] = MODES.map(|mode| written_in(mode, op, record, bytes, entries, payload, room));
+    assert_eq!(ported, published, "operation {op}");
+    published
+}
+
+/// What the library says in a mode, and that it writes all that it reports and nothing else.
+fn written_in(mode: Mode, op: u64, record: &[u8], bytes: &[u8], entries: &[u8], payload: &[u8], room: usize) -> Result<Vec<u8>, Refusal> {
     let mut out = vec![0xa5; room];
     let lengths =
-        raw::write_op_args(op, NEW, record, bytes, entries, payload, &mut out).map(|answer| (answer.end, answer.payload.len(), answer.kind));
+        raw::write_op_args(mode, op, NEW, record, bytes, entries, payload, &mut out).map(|answer| (answer.end, answer.payload.len(), answer.kind));
     match lengths {
         Ok((end, length, kind)) => {
             assert_eq!((length, kind), (end, 0));
@@ -292,8 +351,12 @@ fn any_count_is_an_input() {
     assert_eq!(written(37, &record(&[(COUNT, 3)]), &[], &entries, &[], 512), Ok([string(""), set(&["", "", ""])].concat()));
     // Pairs take two entries each; of 2^63 of them the double is 2^64.
     assert_eq!(written(19, &record(&[(COUNT, 2)]), &[], &entries, &[], 512), Ok([numbers(&[0; 12]), numbers(&[2, 0, 0, 0, 0])].concat()));
+    let written_30 = |mode, count| written_in(mode, 30, &record(&[(COUNT, count)]), &[], &entries, &[], 512);
+    assert_eq!(written_30(Mode::Ported, 4), Ok(numbers(&[4, 0, 0, 0, 0])));
+    assert_eq!(written_30(Mode::Published, 2), Ok(numbers(&[2, 0, 0, 0, 0])));
     for pairs in [3, (1 << 63) - 1, 1 << 63, (1 << 63) + 1, u64::MAX] {
         assert_eq!(written(19, &record(&[(COUNT, pairs)]), &[], &entries, &[], 512), Err(refused(11, pairs as usize)));
+        assert_eq!(written_30(Mode::Published, pairs), Err(refused(11, pairs as usize)));
     }
 }
 
@@ -328,11 +391,15 @@ fn entries_that_are_not_used() {
 
 #[test]
 fn what_was_read_is_written_from_its_own_record() {
-    for (call, stream) in calls(NEW) {
-        let (mut entries, mut payload) = ([0; 16 * raw::ENTRY], vec![0; 70_000]);
-        let answer = raw::read_op_args(call.op(), NEW, &stream, &mut entries, &mut payload).unwrap();
-        let mut out = vec![0; stream.len()];
-        let end = raw::write_op_args(call.op(), NEW, &answer.record(), &stream, answer.entries.as_bytes(), answer.payload, &mut out).unwrap().end;
-        assert!(out == stream && end == stream.len(), "operation {}", call.op());
+    for (mode, version) in every_gate() {
+        for (call, stream) in calls(mode, version) {
+            let op = call.op();
+            let (mut entries, mut payload) = ([0; 16 * raw::ENTRY], vec![0; 70_000]);
+            let answer = raw::read_op_args(mode, op, version, &stream, &mut entries, &mut payload).unwrap();
+            let mut out = vec![0; stream.len()];
+            let end =
+                raw::write_op_args(mode, op, version, &answer.record(), &stream, answer.entries.as_bytes(), answer.payload, &mut out).unwrap().end;
+            assert!(out == stream && end == stream.len(), "operation {op}, {mode:?} at {version}");
+        }
     }
 }

@@ -3,13 +3,13 @@ use crate::fields::{self, Blank};
 use crate::hex;
 use crate::names;
 use lintelow::wire::{mode_text, write_u64};
-use lintelow::{read_op_args, write_op_args, OpCall, Refusal, Version};
+use lintelow::{read_op_args, write_op_args, Mode, OpCall, Refusal, Version};
 use std::ffi::OsString;
 use std::fs;
 use std::io::{self, Write};
 
 pub const USAGE: &str = "\
-usage: call [--hex] VERSION OPERATION [NAME=VALUE ..]
+usage: call [--hex] [--ported] VERSION OPERATION [NAME=VALUE ..]
 
 Writes a call as a Nix client sends it, the operation's number and its arguments, to standard output. VERSION is the one spoken, such as 1.38; OPERATION
 is a name or a number; the NAMEs are those that 'show --json' has.
@@ -24,6 +24,7 @@ is a name or a number; the NAMEs are those that 'show --json' has.
 A set or pairs that are not named are empty; every other field of this operation and version is named once. docs/CALL.md lists them.
 
   --hex                 hexadecimal in place of the bytes
+  --ported              arguments as nix-wire reads them, not as daemons do
 
 Exit status: 0 the call was written; 1 it was refused; 2 a file or the command line.
 ";
@@ -61,6 +62,7 @@ enum Command {
 #[derive(Debug, PartialEq, Eq)]
 struct Asked {
     hex: bool,
+    mode: Mode,
     version: Version,
     op: u64,
     fields: Vec<(String, String)>,
@@ -93,11 +95,13 @@ fn output(words: impl Iterator<Item = OsString>) -> Result<Vec<u8>, Wrong> {
 /// The command that the words say, or what is wrong with them.
 fn parse(words: impl Iterator<Item = OsString>) -> Result<Command, String> {
     let mut hex = false;
+    let mut mode = Mode::Published;
     let mut others = Vec::new();
     for word in words {
         let word = word.into_string().map_err(|word| format!("{word:?} is no UTF-8"))?;
         match word.as_str() {
             "--hex" => hex = true,
+            "--ported" => mode = Mode::Ported,
             "--help" | "-h" => return Ok(Command::Help),
             _ if word.starts_with('-') => return Err(format!("there is no option {word:?}; --help lists them")),
             _ => others.push(word),
@@ -113,7 +117,7 @@ fn parse(words: impl Iterator<Item = OsString>) -> Result<Command, String> {
         Some((name, value)) => Ok((name.to_owned(), value.to_owned())),
         None => Err(format!("{word:?} is no NAME=VALUE")),
     };
-    Ok(Command::Write(Asked { hex, version, op, fields: others.map(field).collect::<Result<_, _>>()? }))
+    Ok(Command::Write(Asked { hex, mode, version, op, fields: others.map(field).collect::<Result<_, _>>()? }))
 }
 
 fn version(text: &str) -> Option<Version> {
@@ -128,11 +132,11 @@ fn number(text: &str) -> Option<u64> {
 
 /// The operation's number and its arguments.
 fn written(asked: &Asked) -> Result<Vec<u8>, Wrong> {
-    let Asked { op, version, fields, .. } = asked;
+    let Asked { mode, op, version, fields, .. } = asked;
     let title = format!("{op} {} at version {version}", names::operation(*op));
     let refused = |refusal: Refusal| Wrong::Refused(format!("{title}: {refusal}"));
-    let mut call = empty_call(*op, *version).map_err(refused)?;
-    let known = names_there(&call, *version);
+    let mut call = empty_call(*mode, *op, *version).map_err(refused)?;
+    let known = names_there(*mode, &call, *version);
     fill_in(&mut call, &known, fields).map_err(|wrong| match wrong {
         Unfit::Unknown(name) if known.is_empty() => format!("{title} has no field {name:?}; its fields: none"),
         Unfit::Unknown(name) => format!("{title} has no field {name:?}; its fields: {}", known.join(", ")),
@@ -141,18 +145,18 @@ fn written(asked: &Asked) -> Result<Vec<u8>, Wrong> {
     })?;
     let mut out = Vec::new();
     write_u64(&mut out, *op);
-    out.extend(write_op_args(&call, *version).map_err(refused)?);
+    out.extend(write_op_args(*mode, &call, *version).map_err(refused)?);
     Ok(out)
 }
 
 /// The call with everything 0 or empty: what is read from zeros.
-fn empty_call(op: u64, version: Version) -> Result<OpCall, Refusal> {
-    let (call, _) = read_op_args(op, version, &[0; 1024])?;
+fn empty_call(mode: Mode, op: u64, version: Version) -> Result<OpCall, Refusal> {
+    let (call, _) = read_op_args(mode, op, version, &[0; 1024])?;
     call.ok_or(Refusal { number: NO_ARGUMENTS, place: 0, stream: 0 })
 }
 
 /// The fields of an empty call that the version has: for one that it lacks nothing else than 0 or empty is written.
-fn names_there(call: &OpCall, version: Version) -> Vec<&'static str> {
+fn names_there(mode: Mode, call: &OpCall, version: Version) -> Vec<&'static str> {
     let count = fields::blanks(&mut call.clone()).len();
     let there = (0..count).filter_map(|index| {
         let mut tried = call.clone();
@@ -165,7 +169,7 @@ fn names_there(call: &OpCall, version: Version) -> Vec<&'static str> {
             Blank::Pairs(pairs) => pairs.push(Default::default()),
             Blank::Payload(payload) => payload.push(0),
         }
-        write_op_args(&tried, version).is_ok().then_some(name)
+        write_op_args(mode, &tried, version).is_ok().then_some(name)
     });
     there.collect()
 }

@@ -102,6 +102,8 @@ macro_rules! arguments {
             OpCall::QueryRealisation { value } => ("QueryRealisation", vec![("value", Text(value))]),
             OpCall::QuerySubstitutablePathInfo { path } => ("QuerySubstitutablePathInfo", vec![("path", Text(path))]),
             OpCall::QuerySubstitutablePathInfos { paths } => ("QuerySubstitutablePathInfos", vec![("paths", Set(paths))]),
+            OpCall::QuerySubstitutablePairs { pairs } => ("QuerySubstitutablePairs", vec![("pairs", Pairs(pairs))]),
+            OpCall::RegisterDrvOutputOld { id, path } => ("RegisterDrvOutputOld", vec![("id", Text(id)), ("path", Text(path))]),
         }
     }};
 }

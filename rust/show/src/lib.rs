@@ -86,7 +86,7 @@ pub fn tell(
     progress: &mut Progress<impl Write>,
 ) -> io::Result<Status> {
     let mut view = view(client, daemon, options, style, out);
-    let mut session = Session::new(client, daemon);
+    let mut session = Session::new(options.mode(), client, daemon);
     let mut status = Status::Read;
     while let Some(event) = session.next() {
         progress.make_way()?;

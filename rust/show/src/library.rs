@@ -2,7 +2,7 @@
 //!
 //! A reader that is lent no payload room refuses by 5 at the place where a payload begins. What stands before that place is read with an empty payload
 //! behind it, and the payload is passed over.
-use lintelow::{raw, wire, with_room, OpCall, Refusal, ResultData, Version};
+use lintelow::{raw, wire, with_room, Mode, OpCall, Refusal, ResultData, Version};
 
 /// How many of a payload's first bytes are kept.
 pub const SHOWN: usize = 16;
@@ -24,9 +24,9 @@ pub struct Read<T> {
 }
 
 /// The arguments of an operation. `None`: arguments that are not read.
-pub fn read_op_args(op: u64, version: Version, stream: &[u8]) -> Result<Read<Option<OpCall>>, Refusal> {
-    let judge = |entries: &mut [u8]| Ok(raw::read_op_args(op, version, stream, entries, &mut [])?.end);
-    apart(stream, judge, |part| lintelow::read_op_args(op, version, part))
+pub fn read_op_args(mode: Mode, op: u64, version: Version, stream: &[u8]) -> Result<Read<Option<OpCall>>, Refusal> {
+    let judge = |entries: &mut [u8]| Ok(raw::read_op_args(mode, op, version, stream, entries, &mut [])?.end);
+    apart(stream, judge, |part| lintelow::read_op_args(mode, op, version, part))
 }
 
 /// The reply to an operation.
@@ -109,7 +109,7 @@ mod tests {
         stream.extend(framed(&[b"abc", b"defghijklmnopqrstuvwxyz", b"!"]));
         let end = stream.len();
         stream.extend(b"what follows");
-        let read = read_op_args(44, VERSION, &stream).unwrap();
+        let read = read_op_args(Mode::Published, 44, VERSION, &stream).unwrap();
         assert_eq!(read.value, Some(OpCall::AddMultipleToStore { repair: true, dont_check_sigs: false, data: Vec::new() }));
         assert_eq!(read.end, end);
         assert_eq!(read.payload, Payload { size: 27, first: b"abcdefghijklmnop".to_vec() });
@@ -128,8 +128,8 @@ mod tests {
         stream.extend(framed(&[b"abc", b"defg"]));
         for length in 0..stream.len() {
             let cut = &stream[..length];
-            let whole = lintelow::read_op_args(44, VERSION, cut).map(|_| ());
-            assert_eq!(read_op_args(44, VERSION, cut).map(|_| ()), whole, "cut at {length}");
+            let whole = lintelow::read_op_args(Mode::Published, 44, VERSION, cut).map(|_| ());
+            assert_eq!(read_op_args(Mode::Published, 44, VERSION, cut).map(|_| ()), whole, "cut at {length}");
         }
     }
 

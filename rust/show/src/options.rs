@@ -1,15 +1,17 @@
 //! The command line.
+use lintelow::Mode;
 use std::ffi::OsString;
 use std::path::PathBuf;
 
 pub const USAGE: &str = "\
-usage: show [--json] [--summary] [--full] [FOLDER]
+usage: show [--json] [--summary] [--full] [--ported] [FOLDER]
 
 Shows a recorded session between a Nix client and its daemon. FOLDER has client.bin and daemon.bin, the bytes that each of them sent.
 
   --json      one JSON object a line, as docs/SHOW.md says
   --summary   counts by operation, bytes and refusals; with --json as JSON
   --full      in words: nothing is shortened or left out
+  --ported    reads arguments as nix-wire does, not as daemons do
 
 Exit status: 0 the session was read to its end; 1 a refusal; 2 a file or the command line; 3 a call that can't be followed; 4 messages not ended.
 ";
@@ -19,7 +21,18 @@ pub struct Options {
     pub json: bool,
     pub summary: bool,
     pub full: bool,
+    pub ported: bool,
     pub folder: PathBuf,
+}
+
+impl Options {
+    pub fn mode(&self) -> Mode {
+        if self.ported {
+            Mode::Ported
+        } else {
+            Mode::Published
+        }
+    }
 }
 
 #[derive(Debug, PartialEq, Eq)]
@@ -37,6 +50,7 @@ pub fn parse(words: impl Iterator<Item = OsString>) -> Result<Command, String> {
             Some("--json") => options.json = true,
             Some("--summary") => options.summary = true,
             Some("--full") => options.full = true,
+            Some("--ported") => options.ported = true,
             Some("--help" | "-h") => return Ok(Command::Help),
             Some(unknown) if unknown.starts_with('-') => return Err(format!("there is no option {unknown:?}; --help lists them")),
             _ if folder.is_some() => return Err(format!("one folder only, and not {word:?} too")),
@@ -57,8 +71,8 @@ mod tests {
 
     #[test]
     fn options_and_a_folder_in_any_order() {
-        let options = Options { json: true, summary: true, full: false, folder: "here".into() };
-        assert_eq!(parsed(&["--json", "here", "--summary"]), Ok(Command::Show(options)));
+        let options = Options { json: true, summary: true, ported: true, full: false, folder: "here".into() };
+        assert_eq!(parsed(&["--json", "--ported", "here", "--summary"]), Ok(Command::Show(options)));
         assert_eq!(parsed(&["here", "--help"]), Ok(Command::Help));
     }
 

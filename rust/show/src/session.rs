@@ -1,7 +1,7 @@
 //! The order of a session: a handshake; then for each call the operation's number and its arguments from the client, and from the daemon its messages
 //! and a reply or an error. What each of them says, and where it ends, is the library's to say.
 use crate::library::{self, Payload};
-use lintelow::{wire, ErrorInfo, HandshakeInfo, OpCall, Refusal, ResultData, StderrCode, Version};
+use lintelow::{wire, ErrorInfo, HandshakeInfo, Mode, OpCall, Refusal, ResultData, StderrCode, Version};
 use std::ops::Range;
 
 /// Bytes of one of the streams, by their places.
@@ -143,6 +143,7 @@ const UNKNOWN_OPERATION: u64 = 9;
 
 /// A session is read as its events are asked for.
 pub struct Session<'s> {
+    mode: Mode,
     client: &'s [u8],
     daemon: &'s [u8],
     /// Where each stream was left.
@@ -156,8 +157,8 @@ pub struct Session<'s> {
 }
 
 impl<'s> Session<'s> {
-    pub fn new(client: &'s [u8], daemon: &'s [u8]) -> Session<'s> {
-        Session { client, daemon, said: 0, answered: 0, version: None, calls: 0, stop: None, over: false }
+    pub fn new(mode: Mode, client: &'s [u8], daemon: &'s [u8]) -> Session<'s> {
+        Session { mode, client, daemon, said: 0, answered: 0, version: None, calls: 0, stop: None, over: false }
     }
 
     /// How many bytes of both streams were read.
@@ -223,12 +224,12 @@ impl<'s> Session<'s> {
             let Call { index, op, version, .. } = *call;
             Stop::Unfollowed(Unfollowed { call: index, op, version, known, client: start, daemon: self.answered })
         };
-        let read = match self.read(call, Part::Arguments, start, |stream| library::read_op_args(call.op, call.version, stream)) {
+        let read = match self.read(call, Part::Arguments, start, |stream| library::read_op_args(self.mode, call.op, call.version, stream)) {
             Err(Stop::Refused(refused)) if refused.refusal.number == UNKNOWN_OPERATION => return Err(unfollowed(false)),
             read => read?,
         };
         let Some(op_call) = read.value else { return Err(unfollowed(true)) };
-        let fixed = lintelow::skip_op_args(call.op, call.version, &self.client[start..]).map_or(read.end, |(_, end)| end);
+        let fixed = lintelow::skip_op_args(self.mode, call.op, call.version, &self.client[start..]).map_or(read.end, |(_, end)| end);
         self.said = start + read.end;
         Ok(Arguments { bytes: start..self.said, fixed_end: start + fixed, call: op_call, payload: read.payload })
     }

@@ -2,7 +2,7 @@
 mod common;
 
 use common::*;
-use lintelow::{skip_daemon_result, Version};
+use lintelow::{skip_daemon_result, Mode, Version};
 use std::fs;
 use std::path::{Path, PathBuf};
 use std::process::{Command, Output};
@@ -86,7 +86,11 @@ const CALLS: [(&str, &[&str], &str); 35] = [
     ("QueryPathInfo", &["path=p"], r#""kind":"SinglePath","path":"p""#),
     ("QueryDerivationOutputNames", &["path=p"], r#""kind":"SinglePath","path":"p""#),
     ("QueryPathFromHashPart", &["value=v"], r#""kind":"SingleString","value":"v""#),
-    ("QuerySubstitutablePathInfos", &["paths=p"], r#""kind":"QuerySubstitutablePathInfos","paths":["p"]"#),
+    (
+        "QuerySubstitutablePathInfos",
+        &["pairs=/nix/store/p=fixed:sha256:ab", "pairs=q="],
+        r#""kind":"QuerySubstitutablePairs","pairs":[["/nix/store/p","fixed:sha256:ab"],["q",""]]"#,
+    ),
     ("QueryValidPaths", &["substitute=false", "paths=p"], r#""kind":"PathSetFlag","paths":["p"],"substitute":false"#),
     ("QuerySubstitutablePaths", &[], r#""kind":"PathSet","paths":[]"#),
     ("QueryValidDerivers", &["path=p"], r#""kind":"SinglePath","path":"p""#),
@@ -155,7 +159,7 @@ fn every_operation_is_read_back_by_show() {
     assert!(end.starts_with(&format!("{{\"event\":\"end\",\"calls\":{}", CALLS.len())), "{end}");
 
     operations.sort();
-    let known: Vec<u64> = (0..=100).filter(|&op| matches!(lintelow::read_op_args(op, NEW, &[0; 256]), Ok((Some(_), _)))).collect();
+    let known: Vec<u64> = (0..=100).filter(|&op| matches!(lintelow::read_op_args(Mode::Published, op, NEW, &[0; 256]), Ok((Some(_), _)))).collect();
     assert_eq!(operations, known, "every operation once");
 }
 
@@ -190,6 +194,39 @@ fn versions_have_their_fields() {
     assert_eq!(written(&["1.27", "QueryValidPaths", "substitute=true"]), numbers(&[31, 0, 1]));
     complains(&["1.27", "QueryValidPaths"], 2, "31 QueryValidPaths at version 1.27 lacks substitute");
     complains(&["1.26", "31", "substitute=false"], 2, "31 QueryValidPaths at version 1.26 has no field \"substitute\"; its fields: paths");
+}
+
+#[test]
+fn modes_have_their_fields() {
+    let strings = |op: u64, numbers_before: &[u64], texts: &[&str]| {
+        let mut bytes = numbers(&[&[op], numbers_before].concat());
+        for text in texts {
+            bytes.extend(numbers(&[text.len() as u64]));
+            bytes.extend(text.bytes());
+            bytes.resize(bytes.len().next_multiple_of(8), 0);
+        }
+        bytes
+    };
+    assert_eq!(written(&["1.22", "30", "pairs=p=ca", "pairs=q="]), strings(30, &[2], &["p", "ca", "q", ""]));
+    assert_eq!(written(&["1.22", "30"]), strings(30, &[0], &[]));
+    assert_eq!(written(&["1.21", "30", "paths=p", "paths=q"]), strings(30, &[2], &["p", "q"]));
+    assert_eq!(written(&["1.30", "42", "path=p", "id=i"]), strings(42, &[], &["i", "p"]));
+    assert_eq!(written(&["1.31", "42", "value=v"]), strings(42, &[], &["v"]));
+    complains(&["1.22", "30", "pairs=p"], 2, "pairs takes pairs, pairs=NAME=VALUE, and \"p\" is none");
+    complains(&["1.22", "30", "paths=p"], 2, "30 QuerySubstitutablePathInfos at version 1.22 has no field \"paths\"; its fields: pairs");
+    complains(&["1.30", "42", "id=i"], 2, "42 RegisterDrvOutput at version 1.30 lacks path");
+
+    let in_words = |words: &[&str], expected: Vec<u8>| {
+        for at in 0..=words.len() {
+            let mut words = words.to_vec();
+            words.insert(at, "--ported");
+            assert_eq!(written(&words), expected);
+        }
+    };
+    in_words(&["1.22", "30", "paths=p", "paths=q"], strings(30, &[2], &["p", "q"]));
+    in_words(&["1.30", "42", "value=v"], strings(42, &[], &["v"]));
+    complains(&["--ported", "1.22", "30", "pairs=p="], 2, "30 QuerySubstitutablePathInfos at version 1.22 has no field \"pairs\"; its fields: paths");
+    complains(&["--ported", "1.30", "42", "id=i"], 2, "42 RegisterDrvOutput at version 1.30 has no field \"id\"; its fields: value");
 }
 
 #[test]
@@ -254,21 +291,47 @@ fn quoted(cell: &str) -> Vec<&str> {
     cell.split('`').skip(1).step_by(2).collect()
 }
 
+/// The rows of the table of docs/CALL.md that begins so, by their cells.
+fn table(head: &str) -> Vec<Vec<String>> {
+    let document = fs::read_to_string(Path::new(env!("CARGO_MANIFEST_DIR")).join("../../docs/CALL.md")).unwrap();
+    let table = document.split_once(head).unwrap().1.split_once("\n\n").unwrap().0;
+    table.lines().skip(2).map(|row| row.split('|').map(str::to_owned).collect()).collect()
+}
+
+/// The program knows the fields that a cell names, and no others.
+fn has_fields(options: &[&str], version: &str, operation: &str, cell: &str) {
+    let (op, name) = (operation.trim().split_once(' ').unwrap().0, quoted(operation)[0]);
+    let fields = quoted(cell);
+    let fields = if fields.is_empty() { "none".to_owned() } else { fields.join(", ") };
+    let line = format!("{op} {name} at version {version} has no field \"no\"; its fields: {fields}");
+    complains(&[options, &[version, name, "no="]].concat(), 2, &line);
+}
+
 /// docs/CALL.md lists the fields of every operation, as the program knows them.
 #[test]
 fn fields_are_documented() {
-    let document = fs::read_to_string(Path::new(env!("CARGO_MANIFEST_DIR")).join("../../docs/CALL.md")).unwrap();
-    let table = document.split_once("| operation | fields |").unwrap().1.split_once("\n\n").unwrap().0;
     let mut documented = 0;
-    for row in table.lines().skip(2) {
-        let cells: Vec<&str> = row.split('|').collect();
-        let fields = quoted(cells[2]);
-        let fields = if fields.is_empty() { "none".to_owned() } else { fields.join(", ") };
-        for (operation, name) in cells[1].split(',').zip(quoted(cells[1])) {
-            let op = operation.trim().split_once(' ').unwrap().0;
-            complains(&["1.38", name, "no="], 2, &format!("{op} {name} at version 1.38 has no field \"no\"; its fields: {fields}"));
+    for cells in table("| operation | fields |") {
+        for operation in cells[1].split(',') {
+            has_fields(&[], "1.38", operation, &cells[2]);
             documented += 1;
         }
     }
     assert_eq!(documented, CALLS.len());
+}
+
+/// And those of the two that the modes write otherwise, on both sides of a version.
+#[test]
+fn fields_are_documented_by_mode() {
+    let rows = table("| operation | versions | fields | with `--ported` |");
+    for cells in &rows {
+        let (side, gate) = cells[2].trim().split_once(' ').unwrap();
+        let minor: u8 = gate.strip_prefix("1.").unwrap().parse().unwrap();
+        let versions = if side == "from" { [format!("1.{minor}"), "1.255".to_owned()] } else { ["1.0".to_owned(), format!("1.{}", minor - 1)] };
+        for version in &versions {
+            has_fields(&[], version, &cells[1], &cells[3]);
+            has_fields(&["--ported"], version, &cells[1], &cells[4]);
+        }
+    }
+    assert_eq!(rows.len(), 4);
 }

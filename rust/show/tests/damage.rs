@@ -10,8 +10,12 @@ const EVERY_VIEW: [(bool, bool); 4] = [(false, false), (true, false), (false, tr
 
 /// Tells the streams in every view, which must agree on how the session ends.
 fn any_end(client: &[u8], daemon: &[u8]) -> Status {
+    end_with(false, client, daemon)
+}
+
+fn end_with(ported: bool, client: &[u8], daemon: &[u8]) -> Status {
     let statuses = EVERY_VIEW.map(|(json, summary)| {
-        let (status, out) = told(client, daemon, &Options { json, summary, full: true, ..Options::default() });
+        let (status, out) = told(client, daemon, &Options { json, summary, ported, full: true, ..Options::default() });
         assert!(out.ends_with('\n'));
         assert!(out.chars().all(|c| c == '\n' || !c.is_control()), "a control character is told");
         status
@@ -23,7 +27,7 @@ fn any_end(client: &[u8], daemon: &[u8]) -> Status {
 
 #[test]
 fn every_beginning_of_the_clients_stream() {
-    for name in ["n226-nbuild-0", "n23-realise-0", "n28-nsign-0"] {
+    for name in ["n226-mix2-2", "n226-nbuild-0", "n23-realise-0", "n28-nsign-0", "n28c29-cacopyng-0"] {
         let (client, daemon) = streams(name);
         for length in 0..client.len() {
             any_end(&client[..length], &daemon);
@@ -72,7 +76,7 @@ fn every_beginning_of_a_last_answer() {
             answers += 1;
         }
     }
-    assert_eq!(answers, 83, "answers of captures/");
+    assert_eq!(answers, 88, "answers of captures/");
 }
 
 /// A call's messages, none or one, and then no code: nothing, the beginning of Last, the reply without Last, and other numbers, some almost Last.
@@ -164,7 +168,7 @@ fn one_byte_changed() {
 
 #[test]
 fn numbers_as_large_as_can_be() {
-    for name in ["n226-nbuild-0", "n28-mix2-0"] {
+    for name in ["n226-mix2-2", "n226-nbuild-0", "n28-mix2-0", "n28c29-cacopyng-0"] {
         let (client, daemon) = streams(name);
         for at in (0..client.len() - 8).step_by(8) {
             let mut changed = client.clone();
@@ -175,6 +179,20 @@ fn numbers_as_large_as_can_be() {
             let mut changed = daemon.clone();
             changed[at..at + 8].fill(0xff);
             any_end(&client, &changed);
+        }
+    }
+}
+
+/// The sessions that are read otherwise then.
+#[test]
+fn with_ported() {
+    for name in ["n226-mix2-2", "n28c29-cacopyng-0"] {
+        let (mut client, daemon) = streams(name);
+        for at in 0..client.len() {
+            end_with(true, &client[..at], &daemon);
+            client[at] ^= 0xff;
+            end_with(true, &client, &daemon);
+            client[at] ^= 0xff;
         }
     }
 }

@@ -1,4 +1,5 @@
-//! The table of docs/DIFFERENCES.md, "Where daemons send something else": each call, over the bytes that stand there, answers what stands there.
+//! The tables of docs/DIFFERENCES.md, "Where daemons send something else": each call, over the bytes that stand there, answers what stands there in each
+//! mode, and what is read as a whole is written to these bytes.
 use lintelow::*;
 use std::fmt::Debug;
 use std::fs;
@@ -19,23 +20,36 @@ fn bytes(cell: &str) -> Vec<u8> {
     bytes
 }
 
-/// What a call answers over a stream, as the table writes it.
-fn answer(call: &str, stream: &[u8]) -> String {
-    let words: Vec<&str> = call.split(' ').collect();
-    let op = || words[1].parse().unwrap();
-    let version = || {
-        let (major, minor) = words[2].split_once('.').unwrap();
-        Version::new(major.parse().unwrap(), minor.parse().unwrap())
-    };
-    match words[0] {
-        "read_op_args" => match read_op_args(op(), version(), stream) {
-            Ok((Some(call), end)) => told(Ok((call, end)), stream),
-            other => told(other, stream),
-        },
-        "skip_op_args" => told(skip_op_args(op(), version(), stream), stream),
-        "read_daemon_result" => told(read_daemon_result(op(), version(), stream), stream),
-        "read_stderr_with_error" => told(read_stderr_with_error(stream).map(|(_, info, end)| (info.expect("an error"), end)), stream),
-        other => panic!("the table has a call {other}"),
+const MODES: [Mode; 2] = [Mode::Ported, Mode::Published];
+
+/// A call as the tables write it: its name and, but for messages, operation and version.
+struct Call<'c> {
+    name: &'c str,
+    op: u64,
+    version: Version,
+}
+
+impl Call<'_> {
+    fn of(cell: &str) -> Call<'_> {
+        let words: Vec<&str> = cell.split(' ').collect();
+        let [name, op, version] = words[..] else { return Call { name: cell, op: 0, version: Version::new(0, 0) } };
+        let (major, minor) = version.split_once('.').unwrap();
+        Call { name, op: op.parse().unwrap(), version: Version::new(major.parse().unwrap(), minor.parse().unwrap()) }
+    }
+
+    /// What it answers over a stream, as the tables write it.
+    fn answer(&self, mode: Mode, stream: &[u8]) -> String {
+        let Call { name, op, version } = *self;
+        match name {
+            "read_op_args" => match read_op_args(mode, op, version, stream) {
+                Ok((Some(call), end)) => told(Ok((call, end)), stream),
+                other => told(other, stream),
+            },
+            "skip_op_args" => told(skip_op_args(mode, op, version, stream), stream),
+            "read_daemon_result" => told(read_daemon_result(op, version, stream), stream),
+            "read_stderr_with_error" => told(read_stderr_with_error(stream).map(|(_, info, end)| (info.expect("an error"), end)), stream),
+            other => panic!("a table has a call {other}"),
+        }
     }
 }
 
@@ -46,16 +60,49 @@ fn told(answer: Result<(impl Debug, usize), Refusal>, stream: &[u8]) -> String {
     }
 }
 
-#[test]
-fn each_row_answers_as_it_says() {
+/// The rows under a heading, each by its cells: one of code without its backticks.
+fn rows(heading: &str) -> Vec<Vec<String>> {
     let document = fs::read_to_string(Path::new(env!("CARGO_MANIFEST_DIR")).join("../../docs/DIFFERENCES.md")).unwrap();
-    let (_, section) = document.split_once("## Where daemons send something else").unwrap();
-    let mut rows = 0;
-    for line in section.lines().filter(|line| line.starts_with("| ") && line.contains('`')) {
-        let cells: Vec<&str> = line.split('|').collect();
-        let code = |cell: usize| cells[cell].trim().trim_matches('`');
-        assert_eq!(answer(code(5), &bytes(code(6))), code(7), "{line}");
-        rows += 1;
+    let (_, section) = document.split_once(heading).unwrap();
+    let (section, _) = section.split_once("\n### ").unwrap_or((section, ""));
+    let rows = section.lines().filter(|line| line.starts_with("| ") && line.contains('`'));
+    rows.map(|row| row.split('|').map(|cell| cell.trim().trim_matches('`').to_owned()).collect()).collect()
+}
+
+#[test]
+fn what_published_mode_reads() {
+    let rows = rows("### What published mode reads\n");
+    for row in &rows {
+        let (call, stream) = (Call::of(&row[5]), bytes(&row[6]));
+        assert_eq!(MODES.map(|mode| call.answer(mode, &stream)), row[7..9], "{row:?}");
     }
-    assert_eq!(rows, 16, "rows of the table");
+    assert_eq!(rows.len(), 6, "rows of the table");
+}
+
+#[test]
+fn what_both_modes_read_as_the_rust_does() {
+    let rows = rows("### What both modes read as the Rust does\n");
+    for row in &rows {
+        let (call, stream) = (Call::of(&row[5]), bytes(&row[6]));
+        for mode in MODES {
+            assert_eq!(call.answer(mode, &stream), row[7], "{mode:?}: {row:?}");
+        }
+    }
+    assert_eq!(rows.len(), 14, "rows of the table");
+}
+
+/// Each mode writes what it reads, and refuses the call of the other.
+#[test]
+fn what_each_mode_writes() {
+    for row in rows("### What published mode reads\n").iter().filter(|row| row[5].starts_with("read_op_args")) {
+        let (Call { op, version, .. }, stream) = (Call::of(&row[5]), bytes(&row[6]));
+        let [ported, published] = MODES.map(|mode| read_op_args(mode, op, version, &stream).unwrap());
+        for (mode, (call, end)) in MODES.into_iter().zip([&ported, &published]) {
+            assert_eq!(write_op_args(mode, call.as_ref().unwrap(), version).as_deref(), Ok(&stream[..*end]), "{row:?}");
+        }
+        if ported != published {
+            let number = |mode, call: Option<OpCall>| write_op_args(mode, &call.unwrap(), version).unwrap_err().number;
+            assert_eq!((number(Mode::Ported, published.0), number(Mode::Published, ported.0)), (14, 14), "{row:?}");
+        }
+    }
 }

@@ -1,8 +1,9 @@
 //! The byte ranges that are shown, against the sessions' indexes, which an independent decoder made by what the daemons really send. They are equal but
-//! where the Rust and document 01 read something else: those calls stand here, with what is done instead.
+//! where published mode, as the Rust and document 01, reads something else: those calls stand here, with what is done instead.
 mod common;
 
 use common::*;
+use lintelow_show::Options;
 use std::fs;
 
 /// A call of an index: a line of index.tsv.
@@ -128,6 +129,22 @@ fn sessions_without_a_difference_are_read_to_the_last_byte() {
         let (_, json) = told(&client, &daemon, &as_json());
         let expected = format!("{{\"event\":\"end\",\"calls\":{},\"left\":[{1},{1}]}}", index(&session).len(), daemon.len());
         assert_eq!(json.lines().last(), Some(expected.as_str()), "{session}");
+    }
+}
+
+/// With --ported the arguments of these calls are read to this end, which is not the index's. What is left over is taken for the next call.
+#[test]
+fn arguments_that_only_published_mode_reads() {
+    for (session, number, end) in [("n226-mix2-2", 3, 352), ("n28c29-cacopyng-0", 2, 272)] {
+        let (client, daemon) = streams(session);
+        let (_, json) = told(&client, &daemon, &Options { ported: true, ..as_json() });
+        let lines: Vec<&str> = json.lines().collect();
+        let indexed = index(session).remove(number - 1);
+        assert_ne!(indexed.arguments.1, end, "{session}: no difference");
+        let ported = Indexed { arguments: (indexed.arguments.0, end), fixed_end: end, ..indexed };
+        same_call(session, number, lines[number], &ported);
+        same_ranges(session, number, lines[number], &ported);
+        assert_eq!(range_after(lines[number + 1], "\"number\":"), Some((end, end + 8)), "{session}: {}", lines[number + 1]);
     }
 }
 

@@ -60,7 +60,7 @@ def sessions_as_json():
     """Each recorded session, and a cut one, with its options, its exit status and its objects."""
     recorded = sorted(path for path in captures.iterdir() if path.is_dir())
     for session in [*recorded, cut_recording()]:
-        for options in (["--json"], ["--json", "--summary"]):
+        for options in (["--json"], ["--json", "--summary"], ["--json", "--ported"]):
             run = subprocess.run([program, *options, str(session)], capture_output=True, check=False)
             yield session, options, run.returncode, [json.loads(line) for line in run.stdout.splitlines()]
 

@@ -10,19 +10,26 @@ use std::path::Path;
 /// The sessions that do not end with status 0.
 const STATUS: [(&str, i32); 5] = [("fb28cmax-nb-0", 1), ("n23-fail-0", 1), ("n28-nglog-0", 1), ("n28-remotebuild-0", 3), ("srv28-copyclosure-0", 1)];
 
+/// The sessions that nix-wire loses behind a call, and how they end with --ported.
+const PORTED: [(&str, i32); 2] = [("n226-mix2-2", 3), ("n28c29-cacopyng-0", 1)];
+
 fn compare(options: &[&str], extension: &str) {
     for name in names() {
-        let output = program().args(options).arg(captures().join(&name)).output().unwrap();
         let expected = STATUS.iter().find(|(known, _)| *known == name).map_or(0, |(_, status)| *status);
-        assert_eq!(status(&output), expected, "{name}");
-        assert!(output.stderr.is_empty(), "{name}: {}", String::from_utf8_lossy(&output.stderr));
-        let file = Path::new(env!("CARGO_MANIFEST_DIR")).join("tests/stored").join(format!("{name}.{extension}"));
-        if env::var_os("STORE").is_some() {
-            fs::write(&file, &output.stdout).unwrap();
-        }
-        let stored = fs::read_to_string(&file).unwrap_or_else(|why| panic!("{}: {why}", file.display()));
-        assert_eq!(printed(&output), stored, "{name}: not what {} has", file.display());
+        same_as_stored(&name, options, extension, expected);
     }
+}
+
+fn same_as_stored(name: &str, options: &[&str], extension: &str, expected: i32) {
+    let output = program().args(options).arg(captures().join(name)).output().unwrap();
+    assert_eq!(status(&output), expected, "{name}");
+    assert!(output.stderr.is_empty(), "{name}: {}", String::from_utf8_lossy(&output.stderr));
+    let file = Path::new(env!("CARGO_MANIFEST_DIR")).join("tests/stored").join(format!("{name}.{extension}"));
+    if env::var_os("STORE").is_some() {
+        fs::write(&file, &output.stdout).unwrap();
+    }
+    let stored = fs::read_to_string(&file).unwrap_or_else(|why| panic!("{}: {why}", file.display()));
+    assert_eq!(printed(&output), stored, "{name}: not what {} has", file.display());
 }
 
 #[test]
@@ -38,6 +45,22 @@ fn json() {
 #[test]
 fn summary() {
     compare(&["--summary"], "summary");
+}
+
+/// Two sessions have outputs of their own; of the others each is the same with --ported.
+#[test]
+fn ported() {
+    for (name, status) in PORTED {
+        for (options, extension) in
+            [(&["--ported"][..], "ported.txt"), (&["--ported", "--json"], "ported.json"), (&["--ported", "--summary"], "ported.summary")]
+        {
+            same_as_stored(name, options, extension, status);
+        }
+    }
+    for name in names().iter().filter(|name| PORTED.iter().all(|(lost, _)| lost != name)) {
+        let json = |options: &[&str]| program().args(options).arg(captures().join(name)).output().unwrap();
+        assert_eq!(json(&["--json", "--ported"]), json(&["--json"]), "{name}");
+    }
 }
 
 #[test]

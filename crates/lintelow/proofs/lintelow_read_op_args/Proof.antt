@@ -11,9 +11,10 @@ lintelow-read-op-args-spec =
     (λ c. read-short _ _ _ _ _ _ (c .if1 .taken))
     (λ c κs. search needs)
     (λ c κs. search needs)
+    (λ c κs. search needs)
     (λ c. search needs)
     (λ c. search needs)
     (λ c. search needs)
     (λ c.
-    let (at-else1, at-read-op-args-bytes, at-put-said) : tie.Else1 × tie.After-read-op-args-bytes × tie.After-put-said = search in
-    read-long _ _ _ _ _ _ (at-else1 .if1 .left) _ _ _ (at-read-op-args-bytes .read-op-args-bytes .ensures) _ _ (at-put-said .put-said .ensures)))
+    let (at-else1, at-mode, at-read-op-args-bytes, at-put-said) : tie.Else1 × tie.After-mode × tie.After-read-op-args-bytes × tie.After-put-said = search in
+    read-long _ _ _ _ _ _ (at-else1 .if1 .left) _ _ _ (rw (at-mode .mode .ensures) at (at-read-op-args-bytes .read-op-args-bytes .ensures)) _ _ (at-put-said .put-said .ensures)))

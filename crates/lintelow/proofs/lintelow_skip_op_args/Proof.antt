@@ -10,7 +10,9 @@ lintelow-skip-op-args-spec =
     (tie.spec
     (λ c κs. search needs)
     (λ c κs. search needs)
+    (λ c κs. search needs)
     (λ c. search needs)
     (λ c.
-    let (at-skip-op-args, at-put) : tie.After-skip-op-args × tie.After-put = search in
-    (told-number _ _ _ _ (at-skip-op-args .skip-op-args .ensures) (at-put .put .ensures .0), told-block _ _ _ _ (at-skip-op-args .skip-op-args .ensures) (at-put .put .ensures .1))))
+    let (at-mode, at-skip-op-args, at-put) : tie.After-mode × tie.After-skip-op-args × tie.After-put = search in
+    let e = rw (at-mode .mode .ensures) at (at-skip-op-args .skip-op-args .ensures) in
+    (told-number _ _ _ _ e (at-put .put .ensures .0), told-block _ _ _ _ e (at-put .put .ensures .1))))

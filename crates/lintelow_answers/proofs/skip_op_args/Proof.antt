@@ -6,7 +6,7 @@ use denote.Ref.{now}
 use Rattle.layouts.specs.Primitive.{version}
 use Rattle.layouts.specs.Pieces.{run}
 use Rattle.layouts.specs.Judge.{entriesOf}
-use Rattle.layouts.specs.Calls.{skippedTree, skipOpArgs}
+use Rattle.layouts.specs.Calls.{context, skippedTree, skipOpArgs}
 use Rattle.lintelow_answers.proofs.Skips.{string-is}
 
 pub skip-op-args-spec : {M : Type 1} → statement M
@@ -17,6 +17,6 @@ skip-op-args-spec =
     (λ c κs. search needs)
     (λ c.
     let at-start : tie.Start = search in
-    let v = version (at-start .args .major) (at-start .args .minor) in
-    string-is (skipOpArgs (at-start .args .op) v (now (at-start .args .s))) (entriesOf (run (skippedTree (at-start .args .op) v) (now (at-start .args .s)) 0)) _ _
+    let k = context (at-start .args .mode) (at-start .args .op) (version (at-start .args .major) (at-start .args .minor)) in
+    string-is (skipOpArgs k (now (at-start .args .s))) (entriesOf (run (skippedTree k) (now (at-start .args .s)) 0)) _ _
     (c .before .skip-op-args .ensures) (c .entries-of .ensures)))

@@ -5,10 +5,10 @@ use Rattle.probe_calls.proofs.line.Tie as tie
 use Prim.Native.Nat.{_-_, _≤_}
 
 abbrev Inv-loop : tie.InvT-loop
-Inv-loop call op s last₀ i₀ newline last i = i ≤ 33
+Inv-loop mode call op s last₀ i₀ newline last i = i ≤ 33
 
 abbrev μ-loop : tie.MeasureT-loop
-μ-loop call op s last₀ i₀ newline last i = 33 - i
+μ-loop mode call op s last₀ i₀ newline last i = 33 - i
 
 pub line-spec : {M : Type 1} → statement M
 line-spec =

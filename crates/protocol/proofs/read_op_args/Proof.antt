@@ -18,5 +18,5 @@ read-op-args-spec =
     (λ c. search needs)
     (λ c.
     let (at-start, at-read-arguments) : tie.Start × tie.After-read-arguments = search in
-    arguments-words _ _ _ (now (at-start .args .entries)) [] (now (at-start .args .payload)) _ _ _ _
+    arguments-words _ _ (now (at-start .args .entries)) [] (now (at-start .args .payload)) _ _ _ _
     (c .answer-of .ensures ∙ at-read-arguments .read-arguments .ensures .0, at-read-arguments .read-arguments .ensures .1) refl))

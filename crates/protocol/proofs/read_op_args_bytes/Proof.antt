@@ -17,4 +17,4 @@ read-op-args-bytes-spec =
     (λ c. search needs)
     (λ c.
     let (at-start, at-read-arguments) : tie.Start × tie.After-read-arguments = search in
-    arguments-bytes _ _ _ [] (now (at-start .args .entries)) (now (at-start .args .payload)) _ _ _ _ (at-read-arguments .read-arguments .ensures) refl))
+    arguments-bytes _ _ [] (now (at-start .args .entries)) (now (at-start .args .payload)) _ _ _ _ (at-read-arguments .read-arguments .ensures) refl))

@@ -6,14 +6,14 @@ use mathlib.Core.Path.{_∙_}
 use Rattle.layouts.specs.Primitive.{version}
 use Rattle.layouts.specs.Operations.{none}
 use Rattle.layouts.specs.Calls.{skipDaemonResult}
-use Rattle.table_operations.proofs.Shapes.{reply-says, shape-refuses}
+use Rattle.table_operations.proofs.Shapes.{reply-says, reply-refuses}
 use Rattle.protocol.proofs.Rows.{unknown-skip, row-skip}
 
 returns : tie.Need-returns
 unfolding skipDaemonResult
 returns c =
     let (at-start, at-reply) : tie.Start × tie.After-reply = search in
-    unknown-skip (version (at-start .args .major) (at-start .args .minor)) none 0 0 _ _ (shape-refuses _ _ _ _ (at-reply .reply .ensures) (c .before .enum-told .given .1) .reply _) _
+    unknown-skip (version (at-start .args .major) (at-start .args .minor)) none 0 0 _ _ (reply-refuses _ _ (at-reply .reply .ensures) (c .before .enum-told .given .1) _) _
     (c .refuse .ensures)
 
 returns-2 : tie.Need-returns-2

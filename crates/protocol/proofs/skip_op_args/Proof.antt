@@ -5,7 +5,7 @@ use Rattle.protocol.proofs.skip_op_args.Tie as tie
 use denote.Ref.{now}
 use Rattle.walk_read.proofs.Filled.{brief-is}
 use Rattle.layouts.specs.Primitive.{version}
-use Rattle.layouts.specs.Calls.{skippedKinds, skipOpArgs}
+use Rattle.layouts.specs.Calls.{context, skippedKinds, skipOpArgs}
 use Rattle.table_operations.proofs.Shapes.{skipped-say, shape-refuses}
 use Rattle.protocol.proofs.Rows.{unknown-is, arguments-unknown, row-arguments, skipped-nothing}
 
@@ -15,8 +15,8 @@ returns c =
     let (at-start, at-skipped, at-enum-told) : tie.Start × tie.After-skipped × tie.After-enum-told = search in
     let a = at-start .args in
     let v = version (a .major) (a .minor) in
-    let k = skippedKinds (a .op) in
-    arguments-unknown _ _ _ _ (unknown-is v k 1 0 (now (a .s)) _ (shape-refuses (a .op) _ _ _ (at-skipped .skipped .ensures) (at-enum-told .enum-told .given .1) .skips v))
+    let k = skippedKinds (context (a .mode) (a .op) v) in
+    arguments-unknown _ _ _ _ (unknown-is v k 1 0 (now (a .s)) _ (shape-refuses (a .mode) (a .op) _ _ _ (at-skipped .skipped .ensures) (at-enum-told .enum-told .given .1) .skips v))
     (c .before .refuse .ensures) (c .refused-arguments .ensures)
 
 returns-2 : tie.Need-returns-2
@@ -26,8 +26,8 @@ returns-2 c =
     let a = at-start .args in
     let g = at-layout .layout in
     let v = version (a .major) (a .minor) in
-    let k = skippedKinds (a .op) in
-    let y = skipped-say (a .op) _ _ _ (at-skipped .skipped .ensures) (at-f .f .given .1) in
+    let k = skippedKinds (context (a .mode) (a .op) v) in
+    let y = skipped-say (a .mode) (a .op) _ _ _ (at-skipped .skipped .ensures) (at-f .f .given .1) in
     row-arguments v k 1 0 (now (a .s)) _ _ _ (g .ensures .0) (g .ensures .1) (y .tree v) _ (y .kind v) _
     (skipped-nothing (g .result) _ (now (a .s)) (brief-is (g .result) _ _ (at-in-brief .in-brief .ensures .1) (at-enum-told2 .enum-told2 .given .1)) _
     (rw (← c .before .spoken .ensures) (c .kind-of .ensures)))
@@ -39,8 +39,8 @@ returns-3 c =
     let a = at-start .args in
     let g = at-layout .layout in
     let v = version (a .major) (a .minor) in
-    let k = skippedKinds (a .op) in
-    let y = skipped-say (a .op) _ _ _ (at-skipped .skipped .ensures) (at-f .f .given .1) in
+    let k = skippedKinds (context (a .mode) (a .op) v) in
+    let y = skipped-say (a .mode) (a .op) _ _ _ (at-skipped .skipped .ensures) (at-f .f .given .1) in
     row-arguments v k 1 0 (now (a .s)) _ _ _ (g .ensures .0) (g .ensures .1) (y .tree v) _ (y .kind v) _ (c .skip-layout .ensures)
 
 returns-4 : tie.Need-returns-4
@@ -50,8 +50,8 @@ returns-4 c =
     let a = at-start .args in
     let g = at-layout .layout in
     let v = version (a .major) (a .minor) in
-    let k = skippedKinds (a .op) in
-    let y = skipped-say (a .op) _ _ _ (at-skipped .skipped .ensures) (at-f .f .given .1) in
+    let k = skippedKinds (context (a .mode) (a .op) v) in
+    let y = skipped-say (a .mode) (a .op) _ _ _ (at-skipped .skipped .ensures) (at-f .f .given .1) in
     row-arguments v k 1 0 (now (a .s)) _ _ _ (g .ensures .0) (g .ensures .1) (y .tree v) _ (y .kind v) _ (c .skip-layout2 .ensures)
 
 pub skip-op-args-spec : {M : Type 1} → statement M

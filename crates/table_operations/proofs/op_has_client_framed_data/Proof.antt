@@ -3,6 +3,7 @@ use Prim.Native.Nat.{ℕ}
 use mathlib.Core.Path.{_≡_, sym, _∙_, ap}
 use mathlib.Core.Bool.{Bool}
 use Rattle.layouts.specs.Primitive.{Result, ok}
+use Rattle.layouts.specs.declared.Mode.the-variants.{Ported}
 use Rattle.layouts.specs.declared.Refusal.{Refusal}
 use Rattle.layouts.specs.Refusal.{plain, refusedBy}
 use Rattle.layouts.specs.Calls.{hasFramed, opHasClientFramedData}
@@ -10,16 +11,16 @@ use Rattle.table.specs.Table.{rowFor}
 use Rattle.table_operations.specs.declared.Shape.{Shape}
 use Rattle.table_operations.specs.declared.Shape.the-variants.{Unknown, At}
 use Rattle.table_operations.specs.Rows.{argumentsOf}
-use Rattle.table_operations.proofs.Shapes.{shape-frames, shape-refuses}
+use Rattle.table_operations.proofs.Shapes.{framed-said, framed-refused}
 use borrow.Author.Needs.{needs}
 use Rattle.table_operations.proofs.op_has_client_framed_data.Statement.{statement}
 use Rattle.table_operations.proofs.op_has_client_framed_data.Tie as tie
 
-not-known : (op n : ℕ) (x : Shape) → n ≡ 9 → x ≡ argumentsOf (rowFor op) → x ≡ Unknown → (r : Refusal) → r ≡ plain n 0 → refusedBy r ≡ opHasClientFramedData op
-not-known op n x h e q r p = rw (p, h) (sym (shape-refuses op x _ _ e q .sendsFrames))
+not-known : (op n : ℕ) (x : Shape) → n ≡ 9 → x ≡ argumentsOf (rowFor Ported op) → x ≡ Unknown → (r : Refusal) → r ≡ plain n 0 → refusedBy r ≡ opHasClientFramedData op
+not-known op n x h e q r p = rw (p, h) (sym (framed-refused op x e q))
 
-known : (op : ℕ) (x : Shape) (i k : ℕ) (t b : Bool) → x ≡ argumentsOf (rowFor op) → x ≡ At i k → t ≡ hasFramed op → t ≡ b → ok b ≡ opHasClientFramedData op
-known op x i k t b e q f g = ap ok (sym g ∙ f) ∙ sym (shape-frames op x _ _ e i k q)
+known : (op : ℕ) (x : Shape) (i k : ℕ) (t b : Bool) → x ≡ argumentsOf (rowFor Ported op) → x ≡ At i k → t ≡ hasFramed op → t ≡ b → ok b ≡ opHasClientFramedData op
+known op x i k t b e q f g = ap ok (sym g ∙ f) ∙ sym (framed-said op x e i k q)
 
 pub op-has-client-framed-data-spec : {M : Type 1} → statement M
 op-has-client-framed-data-spec =

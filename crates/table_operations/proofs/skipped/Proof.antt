@@ -6,10 +6,10 @@ use Rattle.table.specs.declared.Row.{Row}
 use Rattle.table_operations.proofs.Search.{no-row, a-row}
 
 returns : tie.Need-returns
-returns c = no-row (λ (r : Row). r .skipped) (λ (r : Row). r .«skipped_kind») _ _ (c .before .row-code .ensures) (c .if1 .taken)
+returns c = no-row (λ (r : Row). r .skipped) (λ (r : Row). r .«skipped_kind») _ _ _ (c .before .row-code .ensures) (c .if1 .taken)
 
 returns-2 : tie.Need-returns-2
-returns-2 c = a-row (λ (r : Row). r .skipped) (λ (r : Row). r .«skipped_kind») _ _ (c .before .row-code .ensures) (c .if1 .left)
+returns-2 c = a-row (λ (r : Row). r .skipped) (λ (r : Row). r .«skipped_kind») _ _ _ (c .before .row-code .ensures) (c .if1 .left)
 
 pub skipped-spec : {M : Type 1} → statement M
 skipped-spec =

@@ -22,19 +22,19 @@ write-spec =
     (λ c.
     let (at-start, at-arguments, at-first, at-layout, at-spoken, at-kind-of) : tie.Start × tie.After-arguments × tie.After-first × tie.After-layout × tie.After-spoken × tie.After-kind-of = search
     in
-    call-none _ _ (now (at-start .args .numbers)) (now (at-start .args .s)) (numbersIn (now (at-start .args .words)) (now (at-start .args .bytes))) (now (at-start .args .payload))
+    call-none _ (now (at-start .args .numbers)) (now (at-start .args .s)) (numbersIn (now (at-start .args .words)) (now (at-start .args .bytes))) (now (at-start .args .payload))
     (now (at-start .args .out)) _ (at-arguments .arguments .ensures) _ _ (at-first .first .given .1) _ (at-layout .layout .ensures) _ (at-spoken .spoken .ensures) _ (at-kind-of .kind-of .ensures)
     (c .before .if1 .taken) _ (c .refuse2 .ensures))
     (λ c κs. search needs)
     (λ c κs. search needs)
     (λ c.
     let (at-start, at-arguments) : tie.Start × tie.After-arguments = search in
-    call-unknown _ _ (now (at-start .args .numbers)) (now (at-start .args .s)) (numbersIn (now (at-start .args .words)) (now (at-start .args .bytes))) (now (at-start .args .payload))
+    call-unknown _ (now (at-start .args .numbers)) (now (at-start .args .s)) (numbersIn (now (at-start .args .words)) (now (at-start .args .bytes))) (now (at-start .args .payload))
     (now (at-start .args .out)) _ (at-arguments .arguments .ensures) (c .before .enum-told .given .1) _ (c .refuse .ensures))
     (λ c. search needs)
     (λ c.
     let (at-start, at-arguments, at-first, at-layout, at-spoken, at-kind-of, at-else1, at-begin, at-write-fields) : tie.Start × tie.After-arguments × tie.After-first × tie.After-layout ×
     tie.After-spoken × tie.After-kind-of × tie.Else1 × tie.After-begin × tie.After-write-fields = search in
-    call-fields _ _ (now (at-start .args .numbers)) (now (at-start .args .s)) (numbersIn (now (at-start .args .words)) (now (at-start .args .bytes))) (now (at-start .args .payload))
+    call-fields _ (now (at-start .args .numbers)) (now (at-start .args .s)) (numbersIn (now (at-start .args .words)) (now (at-start .args .bytes))) (now (at-start .args .payload))
     (now (at-start .args .out)) _ (at-arguments .arguments .ensures) _ _ (at-first .first .given .1) _ (at-layout .layout .ensures) _ (at-spoken .spoken .ensures) _ (at-kind-of .kind-of .ensures)
     (at-else1 .if1 .left) _ (at-begin .begin .ensures .0) _ _ (at-write-fields .write-fields .ensures)))

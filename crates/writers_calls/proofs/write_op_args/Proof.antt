@@ -39,5 +39,5 @@ write-op-args-spec =
     (λ c. search needs)
     (λ c.
     let (at-start, at-write) : tie.Start × tie.After-write = search in
-    by-words _ _ _ (fifteen (at-start .args .«record»)) (now (at-start .args .bytes)) (now (at-start .args .payload)) _ _ _ (now (at-start .args .entries)) (at-write .write .ensures)
+    by-words _ _ (fifteen (at-start .args .«record»)) (now (at-start .args .bytes)) (now (at-start .args .payload)) _ _ _ (now (at-start .args .entries)) (at-write .write .ensures)
     (record-numbers (at-start .args .«record» .numbers) (at-start .args .«record» .counts) (twelve at-start) (three at-start))))

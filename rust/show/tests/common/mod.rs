@@ -14,7 +14,7 @@ pub fn names() -> Vec<String> {
     let folders = fs::read_dir(captures()).unwrap().map(|entry| entry.unwrap()).filter(|entry| entry.path().is_dir());
     let mut names: Vec<String> = folders.map(|entry| entry.file_name().into_string().unwrap()).collect();
     names.sort();
-    assert_eq!(names.len(), 15, "folders of captures/");
+    assert_eq!(names.len(), 17, "folders of captures/");
     names
 }
 

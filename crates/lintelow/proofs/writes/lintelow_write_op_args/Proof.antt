@@ -25,10 +25,10 @@ held c = search
 returns-2 : tie.Need-returns-2
 unfolding held
 returns-2 c =
-    let (at-else1, at-write-op-args-bytes, at-write, at-put) : tie.Else1 × tie.After-write-op-args-bytes × tie.After-write × tie.After-put = search in
+    let (at-else1, at-mode, at-write-op-args-bytes, at-write, at-put) : tie.Else1 × tie.After-mode × tie.After-write-op-args-bytes × tie.After-write × tie.After-put = search in
     let (at-start, at-shared-slice-known) = held at-else1 in
     let w = at-write-op-args-bytes .write-op-args-bytes in
-    let h = write-long (now (at-start .args .block)) _ _ _ (at-else1 .if1 .left) (w .result) _ (call-answers _ _ _ _ _ _ _ _ _ (w .ensures)) _ (at-write .write .ensures) _ _ (at-put .put .ensures) in
+    let h = write-long (now (at-start .args .block)) _ _ _ (at-else1 .if1 .left) (w .result) _ (call-answers _ _ _ _ _ _ _ _ (rw (at-mode .mode .ensures) at (w .ensures))) _ (at-write .write .ensures) _ _ (at-put .put .ensures) in
     (h .0, (h .1 .0, (h .1 .1, (small at-start .0, (λ i. at-shared-slice-known .shared-slice-known .given i .fits, small at-start .1)))))
 
 pub lintelow-write-op-args-spec : {M : Type 1} → statement M
@@ -36,6 +36,7 @@ lintelow-write-op-args-spec =
     tie.close
     (tie.spec
     returns
+    (λ c κs. search needs)
     (λ c κs. search needs)
     (λ c κs. search needs)
     (λ c κs. search needs)
