@@ -100,7 +100,9 @@ KINDS = """// $made: the kinds of answers.
 
 $kinds
 
-// ---- the codes of kinds that a version or a flag decides
+// ---- the codes of kinds that a version or a flag decides. A lower number is a kind
+
+pub const FIRST_CODE: u8 = $first_code;
 
 $codes
 """
@@ -270,7 +272,7 @@ def places(t):
 def kinds(t):
     plain = ((name, number, "") for name, number in all_kinds())
     decided = ((t.kind_name(kind), t.kind_code(kind), t.kind_users(kind)) for kind in t.kinds)
-    return filled(KINDS, kinds=constants("u8", plain), codes=constants("u8", decided))
+    return filled(KINDS, kinds=constants("u8", plain), first_code=str(FIRST_CODE), codes=constants("u8", decided))
 
 
 def operation(t, row):

@@ -159,17 +159,16 @@ pub fn skip_op_args(mode: Mode, op: u64, major: u16, minor: u8, s: &[u8]) -> Arg
         Shape::At { first, kind } => {
             let layout = walk_items::layout(major, minor, first);
             let b = walk_items::in_brief(layout);
-            match b {
-                Brief::Nothing => Arguments {
-                    outcome: Outcome::Fine,
-                    kind: table_operations::kind_of(kind, walk_items::spoken(layout), false),
-                    ends: 0,
-                    count: 0,
-                    start: 0,
-                    len: 0,
-                },
-                Brief::Number => skip_layout(s, layout, kind),
-                Brief::Longer => skip_layout(s, layout, kind),
+            let Brief::Nothing = b else {
+                return skip_layout(s, layout, kind);
+            };
+            Arguments {
+                outcome: Outcome::Fine,
+                kind: table_operations::kind_of(kind, walk_items::spoken(layout), false),
+                ends: 0,
+                count: 0,
+                start: 0,
+                len: 0,
             }
         }
     }

@@ -76,7 +76,9 @@ pub const COUNT_OF_PATHS: u8 = 3;
 
 pub const COUNT_OF_OVERRIDES: u8 = 4;
 
-// ---- the codes of kinds that a version or a flag decides
+// ---- the codes of kinds that a version or a flag decides. A lower number is a kind
+
+pub const FIRST_CODE: u8 = 32;
 
 // arguments of 7
 pub const FROM_25_ADD_TO_STORE_ELSE_NONE: u8 = 32;

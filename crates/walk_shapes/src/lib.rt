@@ -1,9 +1,10 @@
 // A shape of an operation, read from the start of the stream: a layout in brief, or judged and filled in.
 ghost use mathlib.Core.Path.{_≡_};
 ghost use mathlib.Core.List.{List};
-ghost use Prim.Native.Nat.{ℕ};
+ghost use Prim.Native.Nat.{ℕ, _<_};
 ghost use Rattle.layouts.specs.Primitive.{version};
 ghost use Rattle.layouts.specs.Calls.{context};
+ghost use Rattle.table.specs.Packed.{firstCode};
 ghost use Rattle.walk_items.specs.Items.{versionOf, layoutTree, Briefly};
 ghost use Rattle.walk_items.specs.declared.Brief.the-variants as B;
 ghost use Rattle.walk_judge.specs.Judged.{answerOf, answerAs};
@@ -18,13 +19,13 @@ use walk_judge::Said;
 
 // A layout without fields: no fold is needed.
 fn read_nothing(layout: Layout, code: u8, numbers: &mut [u64; 12], counts: &mut [u64; 3]) -> Said
-    requires { ⌜ Briefly (layoutTree layout) B.Nothing ⌝ }
+    requires { ⌜ Briefly (layoutTree layout) B.Nothing × code < firstCode ⌝ }
     ensures { λ r. ⌜ ((s : List ℕ) (slots room : ℕ) → answerOf r (now (numbers .exit)) (now (counts .exit)) ≡ answerAs (answeredAs (versionOf layout) code (readBy layout s slots room))) ⌝ }
 {
     *numbers = [0u64; 12];
     *counts = [0u64; 3];
     Said::Fine {
-        kind: table_operations::kind_of(code, walk_items::spoken(layout), false),
+        kind: code as u64,
         ends: 0,
         ends2: 0,
         entries: 0,
@@ -41,7 +42,7 @@ fn read_number(
     numbers: &mut [u64; 12],
     counts: &mut [u64; 3],
 ) -> Said
-    requires { ⌜ Briefly (layoutTree layout) B.Number ⌝ }
+    requires { ⌜ Briefly (layoutTree layout) B.Number × code < firstCode ⌝ }
     ensures { λ r. ⌜ ((slots room : ℕ) → answerOf r (now (numbers .exit)) (now (counts .exit)) ≡ answerAs (answeredAs (versionOf layout) code (readBy layout (now (s .entry)) slots room))) ⌝ }
 {
     let m = pieces::number_at(s, 0);
@@ -56,7 +57,7 @@ fn read_number(
             *counts = [0u64; 3];
             numbers[0] = x;
             Said::Fine {
-                kind: table_operations::kind_of(code, walk_items::spoken(layout), false),
+                kind: code as u64,
                 ends: 8,
                 ends2: 0,
                 entries: 0,
@@ -67,7 +68,8 @@ fn read_number(
     }
 }
 
-// What a layout says that needs no fold.
+// What a layout says that needs no fold, and whose kind nothing decides: with `kind_of` in it `read_brief` would stay out of line, and brief calls take five
+// times as long.
 enum InBrief {
     Said(Said),
     Longer,
@@ -82,6 +84,9 @@ fn read_brief(
 ) -> InBrief
     ensures { λ r. ⌜ ReadInBrief layout code (now (s .entry)) (now (numbers .exit)) (now (counts .exit)) r ⌝ }
 {
+    if table::kinds::FIRST_CODE <= code {
+        return InBrief::Longer;
+    }
     let b = walk_items::in_brief(layout);
     match b {
         Brief::Nothing => InBrief::Said(read_nothing(layout, code, numbers, counts)),

@@ -12,6 +12,17 @@ use Rattle.protocol.proofs.Rows.{unknown-is, arguments-unknown, row-arg
 returns : tie.Need-returns
 unfolding skipOpArgs
 returns c =
+    let (at-start, at-skipped, at-f, at-layout) : tie.Start × tie.After-skipped × tie.After-f × tie.After-layout = search in
+    let a = at-start .args in
+    let g = at-layout .layout in
+    let v = version (a .major) (a .minor) in
+    let k = skippedKinds (context (a .mode) (a .op) v) in
+    let y = skipped-say (a .mode) (a .op) _ _ _ (at-skipped .skipped .ensures) (at-f .f .given .1) in
+    row-arguments v k 1 0 (now (a .s)) _ _ _ (g .ensures .0) (g .ensures .1) (y .tree v) _ (y .kind v) _ (c .skip-layout .ensures)
+
+returns-2 : tie.Need-returns-2
+unfolding skipOpArgs
+returns-2 c =
     let (at-start, at-skipped, at-enum-told) : tie.Start × tie.After-skipped × tie.After-enum-told = search in
     let a = at-start .args in
     let v = version (a .major) (a .minor) in
@@ -19,9 +30,9 @@ returns c =
     arguments-unknown _ _ _ _ (unknown-is v k 1 0 (now (a .s)) _ (shape-refuses (a .mode) (a .op) _ _ _ (at-skipped .skipped .ensures) (at-enum-told .enum-told .given .1) .skips v))
     (c .before .refuse .ensures) (c .refused-arguments .ensures)
 
-returns-2 : tie.Need-returns-2
+returns-3 : tie.Need-returns-3
 unfolding skipOpArgs
-returns-2 c =
+returns-3 c =
     let (at-start, at-skipped, at-f, at-layout, at-in-brief, at-enum-told2) : tie.Start × tie.After-skipped × tie.After-f × tie.After-layout × tie.After-in-brief × tie.After-enum-told2 = search in
     let a = at-start .args in
     let g = at-layout .layout in
@@ -31,28 +42,6 @@ returns-2 c =
     row-arguments v k 1 0 (now (a .s)) _ _ _ (g .ensures .0) (g .ensures .1) (y .tree v) _ (y .kind v) _
     (skipped-nothing (g .result) _ (now (a .s)) (brief-is (g .result) _ _ (at-in-brief .in-brief .ensures .1) (at-enum-told2 .enum-told2 .given .1)) _
     (rw (← c .before .spoken .ensures) (c .kind-of .ensures)))
-
-returns-3 : tie.Need-returns-3
-unfolding skipOpArgs
-returns-3 c =
-    let (at-start, at-skipped, at-f, at-layout) : tie.Start × tie.After-skipped × tie.After-f × tie.After-layout = search in
-    let a = at-start .args in
-    let g = at-layout .layout in
-    let v = version (a .major) (a .minor) in
-    let k = skippedKinds (context (a .mode) (a .op) v) in
-    let y = skipped-say (a .mode) (a .op) _ _ _ (at-skipped .skipped .ensures) (at-f .f .given .1) in
-    row-arguments v k 1 0 (now (a .s)) _ _ _ (g .ensures .0) (g .ensures .1) (y .tree v) _ (y .kind v) _ (c .skip-layout .ensures)
-
-returns-4 : tie.Need-returns-4
-unfolding skipOpArgs
-returns-4 c =
-    let (at-start, at-skipped, at-f, at-layout) : tie.Start × tie.After-skipped × tie.After-f × tie.After-layout = search in
-    let a = at-start .args in
-    let g = at-layout .layout in
-    let v = version (a .major) (a .minor) in
-    let k = skippedKinds (context (a .mode) (a .op) v) in
-    let y = skipped-say (a .mode) (a .op) _ _ _ (at-skipped .skipped .ensures) (at-f .f .given .1) in
-    row-arguments v k 1 0 (now (a .s)) _ _ _ (g .ensures .0) (g .ensures .1) (y .tree v) _ (y .kind v) _ (c .skip-layout2 .ensures)
 
 pub skip-op-args-spec : {M : Type 1} → statement M
 skip-op-args-spec =
@@ -67,12 +56,8 @@ skip-op-args-spec =
     (λ c κs. search needs)
     (λ c. search needs)
     (λ c κs. search needs)
-    (λ c κs. search needs)
-    (λ c. search needs)
-    (λ c κs. search needs)
-    (λ c. search needs)
-    (λ c κs. search needs)
     returns
+    (λ c κs. search needs)
+    (λ c κs. search needs)
     returns-2
-    returns-3
-    returns-4)
+    returns-3)

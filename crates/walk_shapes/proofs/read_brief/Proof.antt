@@ -9,11 +9,12 @@ pub read-brief-spec : {M : Type 1} → statement M
 read-brief-spec =
     tie.close
     (tie.spec
+    (λ c. search needs)
     (λ c κs. search needs)
     (λ c. search needs)
-    (λ c κs. search brief-is)
+    (λ c κs. (search brief-is, search needs))
     (λ c. search needs)
-    (λ c κs. search brief-is)
+    (λ c κs. (search brief-is, search needs))
     (λ c. search needs)
     (λ c.
     let (at-start, at-in-brief, at-enum-told) : tie.Start × tie.After-in-brief × tie.After-enum-told = search in
