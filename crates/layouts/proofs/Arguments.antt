@@ -16,7 +16,7 @@ use Rattle.layouts.specs.Record.{blank}
 use Rattle.layouts.specs.Judge.{Ended, judgeOf}
 use Rattle.layouts.specs.Soft.{keptOf}
 use Rattle.layouts.specs.Operations.{Skip, nothing, empty, first, paths, overrides, lowered, loweredAll, skipped, until, Operation, Row, row, unknown, rowIf, findIn, operations, published, rowsIn, find}
-use Rattle.layouts.specs.Calls.{Context, context, chosen, argumentsTree, skippedTree, byRow, argumentsKinds, skippedKinds, Answer, answered, readOpArgs, skipOpArgs, skipFramed}
+use Rattle.layouts.specs.Calls.{Context, chosen, argumentsTree, skippedTree, byRow, argumentsKinds, skippedKinds, Answer, answered, readOpArgs, skipOpArgs, skipFramed}
 use Rattle.layouts.specs.Demands.{RefusedBy, framedArguments, Alike}
 use Rattle.layouts.proofs.Calls.{answer-of, refused-of, refused-onward}
 use Rattle.layouts.proofs.Lowers.{not-both, Lowers, asks, passes, keeps, leaves, stops, Ends, Agree, both-refused, both, no-later, lowers-agree, lowers-kept}
@@ -208,7 +208,7 @@ module _ (c : Context) (a : Alike c) where
       rw (k .0, k .1, older-none (skipped (o .skip) (o .arguments)), ← g) (skipped-lower v (o .skip) (o .arguments) (s .0) (l .0))
 
 -- below 1.25 the kept string of S N N s is the only one
-old-lowers : (m : Mode) (v : Version) → atLeast v (version 1 25) ≡ false → Lowers false 1 (skippedTree (context m 7 v)) (skippedTree (context m 7 v))
+old-lowers : (m : Mode) (v : Version) → atLeast v (version 1 25) ≡ false → let c : Context = record { mode = m; op = 7; spoken = v } in Lowers false 1 (skippedTree c) (skippedTree c)
 unfolding skippedTree find operations published layout groups group fields gated field
 old-lowers Ported v e = rw e (keeps (asks (λ n. asks (λ m. passes stops))))
 old-lowers Published v e = rw e (keeps (asks (λ n. asks (λ m. passes stops))))

@@ -25,8 +25,8 @@ pub record Context : Type 0 where
   pub op : ℕ
   pub spoken : Version
 
-abbrev pub context : Mode → (op : ℕ) → Version → Context
-context m op v = record { mode = m; op = op; spoken = v }
+abbrev pub context : Mode → (op major minor : ℕ) → Context
+context m op a b = record { mode = m; op = op; spoken = version a b }
 
 abbrev pub chosen : Context → Row
 chosen c = find (c .mode) (c .op)

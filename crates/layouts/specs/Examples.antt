@@ -37,10 +37,10 @@ yes? b = pick b 1 0 ∷ []
 
 -- an operation at 1.x, in a mode
 abbrev pub asPorted : (op x : ℕ) → Context
-asPorted op x = context Ported op (version 1 x)
+asPorted op x = context Ported op 1 x
 
 abbrev pub asPublished : (op x : ℕ) → Context
-asPublished op x = context Published op (version 1 x)
+asPublished op x = context Published op 1 x
 
 pub record Example : Type 0 where
   pub computed : List ℕ

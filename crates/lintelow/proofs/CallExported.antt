@@ -218,7 +218,7 @@ module _ (call : Context) (s es ps block after es' ps' : List ℕ) (r : ℕ) whe
 module _ (κs : Lfts 6) (a : Dens κs write-op-args-kinds.ps) (w : ℕ) (x : AtExit (endedOf 6 write-op-args-kinds.ps write-op-args-kinds.r) κs) (p : write-op-args.Post κs a w x)
     (κs′ : Lfts 4) (a′ : Dens κs′ read-op-args-kinds.ps) (r : ℕ) (x′ : AtExit (endedOf 4 read-op-args-kinds.ps read-op-args-kinds.r) κs′) (q : read-op-args.Post κs′ a′ r x′) where
   abbrev asked : Context
-  asked = context (modeOf (a .0)) (a .1 .0) (version (a .1 .1 .0) (a .1 .1 .1 .0))
+  asked = context (modeOf (a .0)) (a .1 .0) (a .1 .1 .0) (a .1 .1 .1 .0)
 
   -- the fifteen numbers of the record
   abbrev numbersGiven : List ℕ
@@ -248,7 +248,7 @@ module _ (κs : Lfts 6) (a : Dens κs write-op-args-kinds.ps) (w : ℕ) (x : AtE
 
   -- the reader's
   abbrev askedRead : Context
-  askedRead = context (modeOf (a′ .0)) (a′ .1 .0) (version (a′ .1 .1 .0) (a′ .1 .1 .1 .0))
+  askedRead = context (modeOf (a′ .0)) (a′ .1 .0) (a′ .1 .1 .0) (a′ .1 .1 .1 .0)
 
   abbrev stream : List ℕ
   stream = now (a′ .1 .1 .1 .1 .0)

@@ -108,7 +108,7 @@ module _ (κs : Lfts 4) (a : Dens κs write-op-args-kinds.ps) (w : Written) (x :
     (κs′ : Lfts 3) (a′ : Dens κs′ read-op-args-kinds.ps) (r : C.Answer) (x′ : AtExit (endedOf 3 read-op-args-kinds.ps read-op-args-kinds.r) κs′)
     (q : read-op-args.Post κs′ a′ r x′) where
   abbrev asked : Context
-  asked = context (a .0) (a .1 .0) (version (a .1 .1 .0) (a .1 .1 .1 .0))
+  asked = context (a .0) (a .1 .0) (a .1 .1 .0) (a .1 .1 .1 .0)
 
   abbrev given : Record
   given = a .1 .1 .1 .1 .0
@@ -130,7 +130,7 @@ module _ (κs : Lfts 4) (a : Dens κs write-op-args-kinds.ps) (w : Written) (x :
 
   -- the reader's
   abbrev askedRead : Context
-  askedRead = context (a′ .0) (a′ .1 .0) (version (a′ .1 .1 .0) (a′ .1 .1 .1 .0))
+  askedRead = context (a′ .0) (a′ .1 .0) (a′ .1 .1 .0) (a′ .1 .1 .1 .0)
 
   abbrev stream : List ℕ
   stream = now (a′ .1 .1 .1 .1 .0)

@@ -17,7 +17,7 @@ use Rattle.layouts.specs.Judge.{Ended, entriesOf, payloadOf, lentAfter}
 use Rattle.layouts.specs.Writers.{entryStart, entryLength, viewOf}
 use Rattle.layouts.specs.Operations.{Kinds}
 use Rattle.layouts.specs.Calls as L
-use Rattle.layouts.specs.Calls.{Context, context, argumentsKinds, replyKinds, argumentsTree, replyTree, readOf, readOpArgs, readDaemonResult, skipDaemonResult, field, readStringSet, readFramed}
+use Rattle.layouts.specs.Calls.{Context, argumentsKinds, replyKinds, argumentsTree, replyTree, readOf, readOpArgs, readDaemonResult, skipDaemonResult, field, readStringSet, readFramed}
 use Rattle.layouts.specs.Stderr.{stderrLoop, errorPieces, readStderrWithError}
 use Rattle.layouts.specs.Handshake.{hear, heardEntries, handshake, daemonHandshake, parseHandshake, parseDaemonHandshake}
 use Rattle.layouts.specs.Soft.{Softened, keptOf, unlessBad}
@@ -79,7 +79,7 @@ module _ {A B C D E : Type 0} where
 
 -- the calls on arguments have a mode before all that
 abbrev pub contextAt : {A : Type 0} → ℕ × Lent A → Context
-contextAt a = context (modeOf (a .0)) (opOf (a .1)) (versionOf (a .1))
+contextAt a = record { mode = modeOf (a .0); op = opOf (a .1); spoken = versionOf (a .1) }
 
 -- the other calls: one room, and the block behind it. Before it stand the stream; both streams, or a stream and a place; a version and a stream
 module _ {A B : Type 0} where

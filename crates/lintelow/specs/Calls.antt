@@ -7,7 +7,7 @@ use Rattle.layouts.specs.Pieces.{run}
 use Rattle.layouts.specs.Record.{blank}
 use Rattle.layouts.specs.Judge.{entriesOf, payloadOf, lentAfter}
 use Rattle.layouts.specs.Calls as L
-use Rattle.layouts.specs.Calls.{Context, argumentsTree, skippedTree, replyTree, readOpArgs, readDaemonResult, skipOpArgs, readStringSet, readFramed}
+use Rattle.layouts.specs.Calls.{Context, context, argumentsTree, replyTree, readOpArgs, readDaemonResult, readStringSet, readFramed}
 use Rattle.layouts.specs.Stderr.{stderrLoop, readStderrWithError, errorPieces}
 use Rattle.layouts.specs.Handshake.{hear, heardEntries, handshake, daemonHandshake, parseHandshake, parseDaemonHandshake}
 use Rattle.layouts.specs.Writers.{textsOf, writeStringSet, outputOf}
@@ -18,8 +18,7 @@ use Rattle.writers_calls.specs.Calls.{bytesOr}
 use Rattle.walk_judge.specs.declared.Answer.{Answer}
 use Rattle.walk_judge.specs.Judged.{answerAs}
 use Rattle.wire.specs.Answers.{setEntries, framedPayload}
-use Rattle.lintelow_answers.specs.Answers.{ended, written}
-use Rattle.lintelow_answers.specs.Skips.{stringSkipped}
+use Rattle.lintelow_answers.specs.Answers.{modeOf, ended, written}
 use Rattle.lintelow_answers.specs.Block.{guarded, numberOf, blockAfter}
 
 -- a call that is lent one room beside the block: judged as o, of which f makes the answer, it reports new
@@ -47,6 +46,10 @@ readCalled block o es ps entries payload =
       payload = lentAfter (guarded block o) ps payload;
     }
 
+-- what chooses the layout of arguments, by numbers as they cross
+abbrev pub asked : (mode op major minor : ℕ) → Context
+asked mode op major minor = context (modeOf mode) op major minor
+
 -- ---- the calls. Sixteen bytes make a slot
 abbrev pub argumentsCalled : Context → (s entries payload block : List ℕ) → ReadCalled
 argumentsCalled c s entries payload block =
@@ -57,10 +60,6 @@ abbrev pub replyCalled : (op : ℕ) → Version → (s entries payload block : L
 replyCalled op v s entries payload block =
     readCalled block (readDaemonResult op v s (length entries / 16) (length payload))
     (bytesOf (entriesOf (run (replyTree op v) s 0))) (payloadOf s (run (replyTree op v) s 0)) entries payload
-
--- arguments that are skipped: no room is lent, and the one string stands in the block
-abbrev pub argumentsSkipped : Context → List ℕ → Answer
-argumentsSkipped c s = answerAs (stringSkipped (skipOpArgs c s) (entriesOf (run (skippedTree c) s 0)))
 
 abbrev pub errorCalled : (s entries block : List ℕ) → Called
 errorCalled s entries block = called block answerAs (readStderrWithError s (length entries / 16)) (bytesOf (entriesOf (errorPieces s (stderrLoop s)))) entries

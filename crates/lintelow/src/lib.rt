@@ -2,13 +2,12 @@
 // refused before all else: `lintelow_answers::put` refuses it, and a call that lends other room looks before it reads.
 ghost use mathlib.Core.Path.{_≡_};
 ghost use Rattle.layouts.specs.Primitive.{version};
-ghost use Rattle.layouts.specs.Calls.{context, skipDaemonResult};
+ghost use Rattle.layouts.specs.Calls.{skipDaemonResult};
 ghost use Rattle.layouts.specs.Stderr.{readStderrLoop};
 ghost use Rattle.walk_judge.specs.Judged.{answerAs};
-ghost use Rattle.lintelow_answers.specs.Answers.{modeOf};
-ghost use Rattle.lintelow_answers.specs.Skips.{resultSkipped};
+ghost use Rattle.lintelow_answers.specs.Skips.{argumentsSkipped, resultSkipped};
 ghost use Rattle.lintelow_answers.specs.Block.{numberOf, blockAfter};
-ghost use Rattle.lintelow.specs.Calls.{argumentsCalled, replyCalled, argumentsSkipped, errorCalled, handshakeCalled, daemonCalled};
+ghost use Rattle.lintelow.specs.Calls.{asked, argumentsCalled, replyCalled, errorCalled, handshakeCalled, daemonCalled};
 
 pub mod reads;
 pub mod writes;
@@ -24,10 +23,10 @@ pub extern "C" fn lintelow_read_op_args(
     payload: &mut [u8],
     block: &mut [u8],
 ) -> u64
-    ensures number { λ r. ⌜ r ≡ argumentsCalled (context (modeOf mode) op (version major minor)) (now (s .entry)) (now (entries .entry)) (now (payload .entry)) (now (block .entry)) .number ⌝ }
-    ensures block { λ r. ⌜ now (block .exit) ≡ argumentsCalled (context (modeOf mode) op (version major minor)) (now (s .entry)) (now (entries .entry)) (now (payload .entry)) (now (block .entry)) .block ⌝ }
-    ensures entries { λ r. ⌜ now (entries .exit) ≡ argumentsCalled (context (modeOf mode) op (version major minor)) (now (s .entry)) (now (entries .entry)) (now (payload .entry)) (now (block .entry)) .entries ⌝ }
-    ensures payload { λ r. ⌜ now (payload .exit) ≡ argumentsCalled (context (modeOf mode) op (version major minor)) (now (s .entry)) (now (entries .entry)) (now (payload .entry)) (now (block .entry)) .payload ⌝ }
+    ensures number { λ r. ⌜ r ≡ argumentsCalled (asked mode op major minor) (now (s .entry)) (now (entries .entry)) (now (payload .entry)) (now (block .entry)) .number ⌝ }
+    ensures block { λ r. ⌜ now (block .exit) ≡ argumentsCalled (asked mode op major minor) (now (s .entry)) (now (entries .entry)) (now (payload .entry)) (now (block .entry)) .block ⌝ }
+    ensures entries { λ r. ⌜ now (entries .exit) ≡ argumentsCalled (asked mode op major minor) (now (s .entry)) (now (entries .entry)) (now (payload .entry)) (now (block .entry)) .entries ⌝ }
+    ensures payload { λ r. ⌜ now (payload .exit) ≡ argumentsCalled (asked mode op major minor) (now (s .entry)) (now (entries .entry)) (now (payload .entry)) (now (block .entry)) .payload ⌝ }
 {
     if block.len() < lintelow_answers::BLOCK {
         return layouts::OUTPUT_FULL;
@@ -91,8 +90,8 @@ pub extern "C" fn lintelow_skip_op_args(
     s: &[u8],
     block: &mut [u8],
 ) -> u64
-    ensures number { λ r. ⌜ r ≡ numberOf (now (block .entry)) (argumentsSkipped (context (modeOf mode) op (version major minor)) (now (s .entry))) ⌝ }
-    ensures block { λ r. ⌜ now (block .exit) ≡ blockAfter (now (block .entry)) (argumentsSkipped (context (modeOf mode) op (version major minor)) (now (s .entry))) ⌝ }
+    ensures number { λ r. ⌜ r ≡ numberOf (now (block .entry)) (argumentsSkipped (asked mode op major minor) (now (s .entry))) ⌝ }
+    ensures block { λ r. ⌜ now (block .exit) ≡ blockAfter (now (block .entry)) (argumentsSkipped (asked mode op major minor) (now (s .entry))) ⌝ }
 {
     let passed = lintelow_answers::skip_op_args(lintelow_answers::mode(mode), op, major, minor, s);
     lintelow_answers::put(block, passed)

@@ -2,15 +2,14 @@
 ghost use mathlib.Core.Path.{_≡_};
 ghost use Prim.Native.Nat.{_<_};
 ghost use lib.ListN.{length};
-ghost use Rattle.layouts.specs.Primitive.{version, littleEnd, numberBytes};
+ghost use Rattle.layouts.specs.Primitive.{littleEnd, numberBytes};
 ghost use Rattle.layouts.specs.Judge.{lentAfter};
-ghost use Rattle.layouts.specs.Calls.{context};
 ghost use Rattle.layouts.specs.Demands.{Held};
 ghost use Rattle.layouts.specs.Writers.{writing, stringBytes, framedBytes, modeText, pathsText, overridesText, writeString};
 ghost use Rattle.walk_judge.specs.Judged.{answerAs};
-ghost use Rattle.lintelow_answers.specs.Answers.{modeOf, written};
+ghost use Rattle.lintelow_answers.specs.Answers.{written};
 ghost use Rattle.lintelow_answers.specs.Block.{guarded, numberOf, blockAfter};
-ghost use Rattle.lintelow.specs.Calls.{setWritten, callWritten};
+ghost use Rattle.lintelow.specs.Calls.{asked, setWritten, callWritten};
 
 #[no_mangle]
 pub extern "C" fn lintelow_write_u64(out: &mut [u8], x: u64, block: &mut [u8]) -> u64
@@ -151,11 +150,11 @@ pub extern "C" fn lintelow_write_op_args(
     block: &mut [u8],
 ) -> u64
     ensures number { λ r. ⌜ r
-        ≡ callWritten (context (modeOf mode) op (version major minor)) (now («record» .entry)) (now (bytes .entry)) (now (entries .entry)) (now (payload .entry)) (now (out .entry)) (now (block .entry)) .number ⌝ }
+        ≡ callWritten (asked mode op major minor) (now («record» .entry)) (now (bytes .entry)) (now (entries .entry)) (now (payload .entry)) (now (out .entry)) (now (block .entry)) .number ⌝ }
     ensures block { λ r. ⌜ now (block .exit)
-        ≡ callWritten (context (modeOf mode) op (version major minor)) (now («record» .entry)) (now (bytes .entry)) (now (entries .entry)) (now (payload .entry)) (now (out .entry)) (now (block .entry)) .block ⌝ }
+        ≡ callWritten (asked mode op major minor) (now («record» .entry)) (now (bytes .entry)) (now (entries .entry)) (now (payload .entry)) (now (out .entry)) (now (block .entry)) .block ⌝ }
     ensures out { λ r. ⌜ now (out .exit)
-        ≡ callWritten (context (modeOf mode) op (version major minor)) (now («record» .entry)) (now (bytes .entry)) (now (entries .entry)) (now (payload .entry)) (now (out .entry)) (now (block .entry)) .room ⌝ }
+        ≡ callWritten (asked mode op major minor) (now («record» .entry)) (now (bytes .entry)) (now (entries .entry)) (now (payload .entry)) (now (out .entry)) (now (block .entry)) .room ⌝ }
     ensures size { λ r. ⌜ length (now (out .entry)) < 9223372036854775808 ⌝ }
     ensures held { λ r. ⌜ Held (now («record» .entry)) ⌝ }
 {

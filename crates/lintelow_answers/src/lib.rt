@@ -13,10 +13,8 @@ ghost use Rattle.writers_output.specs.Numbers.{bytesOf};
 ghost use Rattle.writers_output.specs.Placed.{placed};
 ghost use Rattle.lintelow_answers.specs.Block.{refusalOf, headOf, blockOf, numberPut, numberOf, blockPut, blockAfter};
 ghost use lib.Dec.{eqb};
-ghost use Rattle.layouts.specs.Pieces.{run};
-ghost use Rattle.layouts.specs.Judge.{entriesOf};
-ghost use Rattle.layouts.specs.Calls.{context, skippedTree, skipOpArgs, skipDaemonResult};
-ghost use Rattle.lintelow_answers.specs.Skips.{stringSkipped, resultSkipped};
+ghost use Rattle.layouts.specs.Calls.{context, skipDaemonResult};
+ghost use Rattle.lintelow_answers.specs.Skips.{argumentsSkipped, resultSkipped};
 use entries::Located;
 use layouts::Mode;
 use layouts::Record;
@@ -318,7 +316,7 @@ fn entries_of(kind: u64) -> usize
 
 // The count is number 0; start and length of the one string are numbers 1 and 2.
 pub fn skip_op_args(mode: Mode, op: u64, major: u16, minor: u8, s: &[u8]) -> Answer
-    ensures { λ r. ⌜ r ≡ answerAs (stringSkipped (skipOpArgs (context mode op (version major minor)) (now (s .entry))) (entriesOf (run (skippedTree (context mode op (version major minor))) (now (s .entry)) 0))) ⌝ }
+    ensures { λ r. ⌜ r ≡ argumentsSkipped (context mode op major minor) (now (s .entry)) ⌝ }
 {
     let a = protocol::skip_op_args(mode, op, major, minor, s);
     let o = a.outcome;

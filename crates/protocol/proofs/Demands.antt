@@ -19,7 +19,7 @@ use Rattle.layouts.specs.Judge.{judgeOf, entriesOf, payloadOf, lentAfter}
 use Rattle.layouts.specs.Writers.{entryStart, entryLength, viewOf}
 use Rattle.layouts.specs.Soft.{Softened, keptOf, unlessBad}
 use Rattle.layouts.specs.Operations.{Kinds}
-use Rattle.layouts.specs.Calls.{Context, context, Answer, answered, argumentsKinds, replyKinds, argumentsTree, replyTree, readOf, readOpArgs, readDaemonResult, skipDaemonResult}
+use Rattle.layouts.specs.Calls.{Context, Answer, answered, argumentsKinds, replyKinds, argumentsTree, replyTree, readOf, readOpArgs, readDaemonResult, skipDaemonResult}
 use Rattle.layouts.specs.Demands.{meaningOf, Untouched, Verdict}
 use Rattle.layouts.proofs.Judge.{judge-read, entries-length, payload-length, entries-counted, payload-counted}
 use Rattle.layouts.proofs.Placed.{run-placed}
@@ -63,7 +63,7 @@ module _ {A : Type 0} where
 
   -- the mode comes first, where a call takes it
   abbrev pub contextOf : Mode × Lent A → Context
-  contextOf a = context (a .0) (opOf (a .1)) (versionOf (a .1))
+  contextOf a = record { mode = a .0; op = opOf (a .1); spoken = versionOf (a .1) }
 
   -- the pieces of the arguments, or of the reply, that stand in the stream
   abbrev argumentsIn : Mode × Lent A → Pieces

@@ -98,10 +98,10 @@ module _ (x : Context) (s words bytes payload : List ℕ) (a : C.Answer) (ws bs 
 
   module _ (h : ShapeRead v shape s words bytes payload a ws bs ps) where
     arguments-known : (i c : ℕ) → shape ≡ At i c → (argumentsTree x ≡ layout v (groupsAt i)) × ((b : Bool) → kindOf v b (argumentsKinds x) ≡ kindNumbered v b c)
-    arguments-known i c q = let y = arguments-say (x .mode) (x .op) shape i c refl q in (y .tree v, y .kind v)
+    arguments-known i c q = let y = arguments-say x shape i c refl q in (y .tree, y .kind)
 
     arguments-unknown : shape ≡ Unknown → argumentsTree x ≡ fail 9 0
-    arguments-unknown q = shape-refuses (x .mode) (x .op) shape _ _ refl q .arguments v
+    arguments-unknown q = shape-refuses x shape _ _ refl q .arguments
 
     pub arguments-words : bytes ≡ [] → (a ≡ answerAs (readOpArgs x s (length words / 2) (length payload)))
         × ((ws ≡ lentAfter (readOpArgs x s (length words / 2) (length payload)) (entriesOf (run (argumentsTree x) s 0)) words)
@@ -118,10 +118,10 @@ module _ (x : Context) (s words bytes payload : List ℕ) (a : C.Answer) (ws bs 
 module _ (op : ℕ) (v : Version) (s words bytes payload : List ℕ) (a : C.Answer) (ws bs ps : List ℕ) where
   module _ (h : ShapeRead v (replyOf (rowFor Ported op)) s words bytes payload a ws bs ps) where
     reply-known : (i c : ℕ) → replyOf (rowFor Ported op) ≡ At i c → (replyTree op v ≡ layout v (groupsAt i)) × ((b : Bool) → kindOf v b (replyKinds op) ≡ kindNumbered v b c)
-    reply-known i c q = let y = reply-says op (replyOf (rowFor Ported op)) i c refl q in (y .tree v, y .kind v)
+    reply-known i c q = let y = reply-says op v (replyOf (rowFor Ported op)) i c refl q in (y .tree, y .kind)
 
     reply-unknown : replyOf (rowFor Ported op) ≡ Unknown → replyTree op v ≡ fail 9 0
-    reply-unknown q = reply-refuses op (replyOf (rowFor Ported op)) refl q v
+    reply-unknown q = reply-refuses op v (replyOf (rowFor Ported op)) refl q
 
     pub reply-words : bytes ≡ [] → (a ≡ answerAs (readDaemonResult op v s (length words / 2) (length payload)))
         × ((ws ≡ lentAfter (readDaemonResult op v s (length words / 2) (length payload)) (entriesOf (run (replyTree op v) s 0)) words)

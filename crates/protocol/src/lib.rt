@@ -43,9 +43,9 @@ pub fn read_op_args(
     entries: &mut [u64],
     payload: &mut [u8],
 ) -> Answer
-    ensures answer { λ r. ⌜ r ≡ argumentsRead (context mode op (version major minor)) (now (s .entry)) (now (entries .entry)) (now (payload .entry)) .answer ⌝ }
-    ensures entries { λ r. ⌜ now (entries .exit) ≡ argumentsRead (context mode op (version major minor)) (now (s .entry)) (now (entries .entry)) (now (payload .entry)) .entries ⌝ }
-    ensures payload { λ r. ⌜ now (payload .exit) ≡ argumentsRead (context mode op (version major minor)) (now (s .entry)) (now (entries .entry)) (now (payload .entry)) .payload ⌝ }
+    ensures answer { λ r. ⌜ r ≡ argumentsRead (context mode op major minor) (now (s .entry)) (now (entries .entry)) (now (payload .entry)) .answer ⌝ }
+    ensures entries { λ r. ⌜ now (entries .exit) ≡ argumentsRead (context mode op major minor) (now (s .entry)) (now (entries .entry)) (now (payload .entry)) .entries ⌝ }
+    ensures payload { λ r. ⌜ now (payload .exit) ≡ argumentsRead (context mode op major minor) (now (s .entry)) (now (entries .entry)) (now (payload .entry)) .payload ⌝ }
 {
     let mut none: [u8; 0] = [];
     let mut numbers = [0u64; 12];
@@ -77,9 +77,10 @@ pub fn read_op_args_bytes(
     numbers: &mut [u64; 12],
     counts: &mut [u64; 3],
 ) -> Said
-    ensures answer { λ r. ⌜ answerOf r (now (numbers .exit)) (now (counts .exit)) ≡ B.argumentsRead (context mode op (version major minor)) (now (s .entry)) (now (entries .entry)) (now (payload .entry)) .answer ⌝ }
-    ensures entries { λ r. ⌜ now (entries .exit) ≡ B.argumentsRead (context mode op (version major minor)) (now (s .entry)) (now (entries .entry)) (now (payload .entry)) .entries ⌝ }
-    ensures payload { λ r. ⌜ now (payload .exit) ≡ B.argumentsRead (context mode op (version major minor)) (now (s .entry)) (now (entries .entry)) (now (payload .entry)) .payload ⌝ }
+    ensures answer { λ r. ⌜ answerOf r (now (numbers .exit)) (now (counts .exit))
+        ≡ B.argumentsRead (context mode op major minor) (now (s .entry)) (now (entries .entry)) (now (payload .entry)) .answer ⌝ }
+    ensures entries { λ r. ⌜ now (entries .exit) ≡ B.argumentsRead (context mode op major minor) (now (s .entry)) (now (entries .entry)) (now (payload .entry)) .entries ⌝ }
+    ensures payload { λ r. ⌜ now (payload .exit) ≡ B.argumentsRead (context mode op major minor) (now (s .entry)) (now (entries .entry)) (now (payload .entry)) .payload ⌝ }
 {
     let mut none: [u64; 0] = [];
     walk_shapes::read_arguments(
@@ -151,7 +152,7 @@ fn skip_layout(s: &[u8], layout: Layout, code: u8) -> Arguments
 
 // Stops before framed data, and checks the text of no string but the one that it answers.
 pub fn skip_op_args(mode: Mode, op: u64, major: u16, minor: u8, s: &[u8]) -> Arguments
-    ensures { λ r. ⌜ r ≡ argumentsAs (skipOpArgs (context mode op (version major minor)) (now (s .entry))) (entriesOf (run (skippedTree (context mode op (version major minor))) (now (s .entry)) 0)) ⌝ }
+    ensures { λ r. ⌜ r ≡ argumentsAs (skipOpArgs (context mode op major minor) (now (s .entry))) (entriesOf (run (skippedTree (context mode op major minor)) (now (s .entry)) 0)) ⌝ }
 {
     let f = table_operations::skipped(mode, op);
     match f {

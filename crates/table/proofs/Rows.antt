@@ -13,7 +13,7 @@ use Rattle.layouts.specs.Shape.{What, Group, once, opt, many, layout, fail}
 use Rattle.layouts.specs.CallWriter.{fieldsThere, fieldsBy, callFields}
 use Rattle.layouts.specs.Operations.{argumentsNumber, replyNumber, skippedNumber, Kinds, none, only, byVersion, byFlag, byNumber, kindOf, skippedKind, Operation, Row, row, unknown, rowIf, operations, published}
 use Rattle.layouts.specs.Operations as O
-use Rattle.layouts.specs.Calls.{context, byRow, argumentsTree, skippedTree, kindBy, argumentsKinds, skippedKinds, hasFramed, ifKnown}
+use Rattle.layouts.specs.Calls.{Context, chosen, byRow, argumentsTree, skippedTree, kindBy, argumentsKinds, skippedKinds, hasFramed, ifKnown}
 use Rattle.table.specs.declared.Row as R
 use Rattle.table.specs.declared.Found.{Found}
 use Rattle.table.specs.declared.Found.the-variants as F
@@ -79,66 +79,73 @@ firstFields v (many i xs ∷ gs) = []
 abbrev pub fieldsFor : Version → (i k : ℕ) → Result (List What)
 fieldsFor v i k = pick (eqb (kindNumbered v false k) 0) (refused noArguments 0 0) (ok (firstFields v (groupsAt i)))
 
-pub record Says (m : Mode) (op : ℕ) (r : R.Row) : Type 0 where
-  pub call : (v : Version) → callFields (context m op v) ≡ fieldsFor v (r .arguments) (r .«arguments_kind»)
-  pub arguments : (v : Version) → argumentsTree (context m op v) ≡ layout v (groupsAt (r .arguments))
-  pub skips : (v : Version) → skippedTree (context m op v) ≡ layout v (groupsAt (r .skipped))
-  pub reply : (v : Version) → byRow (O.find m op) (λ o. layout v (o .reply)) ≡ layout v (groupsAt (r .reply))
-  pub argumentsKind : (v : Version) (b : Bool) → kindOf v b (argumentsKinds (context m op v)) ≡ kindNumbered v b (r .«arguments_kind»)
-  pub skippedKind : (v : Version) (b : Bool) → kindOf v b (skippedKinds (context m op v)) ≡ kindNumbered v b (r .«skipped_kind»)
-  pub replyKind : (v : Version) (b : Bool) → kindOf v b (kindBy (O.find m op) (λ o. byNumber replyNumber (o .replyKind))) ≡ kindNumbered v b (r .«reply_kind»)
-  pub known : ifKnown (O.find m op) (hasFramed op) ≡ ok (hasFramed op)
+-- of a context c: all that is chosen by it is what the row r has
+pub record Says (c : Context) (r : R.Row) : Type 0 where
+  pub call : callFields c ≡ fieldsFor (c .spoken) (r .arguments) (r .«arguments_kind»)
+  pub arguments : argumentsTree c ≡ layout (c .spoken) (groupsAt (r .arguments))
+  pub skips : skippedTree c ≡ layout (c .spoken) (groupsAt (r .skipped))
+  pub reply : byRow (chosen c) (λ o. layout (c .spoken) (o .reply)) ≡ layout (c .spoken) (groupsAt (r .reply))
+  pub argumentsKind : (b : Bool) → kindOf (c .spoken) b (argumentsKinds c) ≡ kindNumbered (c .spoken) b (r .«arguments_kind»)
+  pub skippedKind : (b : Bool) → kindOf (c .spoken) b (skippedKinds c) ≡ kindNumbered (c .spoken) b (r .«skipped_kind»)
+  pub replyKind : (b : Bool) → kindOf (c .spoken) b (kindBy (chosen c) (λ o. byNumber replyNumber (o .replyKind))) ≡ kindNumbered (c .spoken) b (r .«reply_kind»)
+  pub known : ifKnown (chosen c) (hasFramed (c .op)) ≡ ok (hasFramed (c .op))
 
-pub record Refuses (m : Mode) (op : ℕ) : Type 0 where
-  pub call : (v : Version) → callFields (context m op v) ≡ refused unknownOperation 0 0
-  pub arguments : (v : Version) → argumentsTree (context m op v) ≡ fail 9 0
-  pub skips : (v : Version) → skippedTree (context m op v) ≡ fail 9 0
-  pub reply : (v : Version) → byRow (O.find m op) (λ o. layout v (o .reply)) ≡ fail 9 0
-  pub known : ifKnown (O.find m op) (hasFramed op) ≡ refused 9 0 0
+pub record Refuses (c : Context) : Type 0 where
+  pub call : callFields c ≡ refused unknownOperation 0 0
+  pub arguments : argumentsTree c ≡ fail 9 0
+  pub skips : skippedTree c ≡ fail 9 0
+  pub reply : byRow (chosen c) (λ o. layout (c .spoken) (o .reply)) ≡ fail 9 0
+  pub known : ifKnown (chosen c) (hasFramed (c .op)) ≡ refused 9 0 0
 
-module _ (m : Mode) (op : ℕ) where
-  kind-by : (v : Version) (b : Bool) (o : Operation) (k : Operation → Kinds) (n : Numbered) → O.find m op ≡ row o → n ≡ numbered (k o)
-      → kindOf v b (kindBy (O.find m op) k) ≡ numberedValue v b n
-  kind-by v b o k n e q = rw (e, q) (numbered-value v b (k o))
+-- the packed row that a context chooses
+abbrev pub rowOf : Context → Found
+rowOf c = rowFor (c .mode) (c .op)
 
-  call-by : (v : Version) (r : R.Row) (o : Operation) → O.find m op ≡ row o → said r ≡ wanted o
-      → callFields (context m op v) ≡ fieldsFor v (r .arguments) (r .«arguments_kind»)
+module _ (c : Context) where
+  abbrev v : Version
+  v = c .spoken
+
+  kind-by : (b : Bool) (o : Operation) (k : Operation → Kinds) (n : Numbered) → chosen c ≡ row o → n ≡ numbered (k o)
+      → kindOf v b (kindBy (chosen c) k) ≡ numberedValue v b n
+  kind-by b o k n e q = rw (e, q) (numbered-value v b (k o))
+
+  call-by : (r : R.Row) (o : Operation) → chosen c ≡ row o → said r ≡ wanted o → callFields c ≡ fieldsFor v (r .arguments) (r .«arguments_kind»)
   unfolding callFields
-  call-by v r o e q =
-      ap (λ (y : Row). fieldsBy y (context m op v)) e
+  call-by r o e q =
+      ap (λ (y : Row). fieldsBy y c) e
       ∙ ap (λ (n : ℕ). pick (eqb n 0) (refused noArguments 0 0) (ok (fieldsThere v (o .arguments))))
-      (kind-by v false o (λ o. byNumber argumentsNumber (o .argumentsKind)) (numberedOf (r .«arguments_kind»)) e (ap (λ (x : Said). x .argumentsKind) q))
+      (kind-by false o (λ o. byNumber argumentsNumber (o .argumentsKind)) (numberedOf (r .«arguments_kind»)) e (ap (λ (x : Said). x .argumentsKind) q))
       ∙ ap (λ (x : Said). pick (eqb (kindNumbered v false (r .«arguments_kind»)) 0) (refused noArguments 0 0) (ok (firstFields v (x .arguments)))) (sym q)
 
-  says-by : (r : R.Row) (x : Row) → O.find m op ≡ x → Match op (F.Row r) x → Says m op r
+  says-by : (r : R.Row) (x : Row) → chosen c ≡ x → Match (c .op) (F.Row r) x → Says c r
   unfolding argumentsTree skippedTree
-  says-by r unknown e t = absurd t
-  says-by r (row o) e t =
+  says-by r unknown e m = absurd m
+  says-by r (row o) e m =
       record {
-        call = λ v. call-by v r o e (t .0);
-        arguments = λ v. rw e (ap (λ (x : Said). layout v (x .arguments)) (sym (t .0)));
-        skips = λ v. rw e (ap (λ (x : Said). layout v (x .skips)) (sym (t .0)));
-        reply = λ v. rw e (ap (λ (x : Said). layout v (x .reply)) (sym (t .0)));
-        argumentsKind = λ v b. kind-by v b o (λ o. byNumber argumentsNumber (o .argumentsKind)) _ e (ap (λ (x : Said). x .argumentsKind) (t .0));
-        skippedKind = λ v b. kind-by v b o (λ o. byNumber skippedNumber (skippedKind (o .skip))) _ e (ap (λ (x : Said). x .skippedKind) (t .0));
-        replyKind = λ v b. kind-by v b o (λ o. byNumber replyNumber (o .replyKind)) _ e (ap (λ (x : Said). x .replyKind) (t .0));
+        call = call-by r o e (m .0);
+        arguments = rw e (ap (λ (x : Said). layout v (x .arguments)) (sym (m .0)));
+        skips = rw e (ap (λ (x : Said). layout v (x .skips)) (sym (m .0)));
+        reply = rw e (ap (λ (x : Said). layout v (x .reply)) (sym (m .0)));
+        argumentsKind = λ b. kind-by b o (λ o. byNumber argumentsNumber (o .argumentsKind)) _ e (ap (λ (x : Said). x .argumentsKind) (m .0));
+        skippedKind = λ b. kind-by b o (λ o. byNumber skippedNumber (skippedKind (o .skip))) _ e (ap (λ (x : Said). x .skippedKind) (m .0));
+        replyKind = λ b. kind-by b o (λ o. byNumber replyNumber (o .replyKind)) _ e (ap (λ (x : Said). x .replyKind) (m .0));
         known = rw e;
       }
 
-  refuses-by : (x : Row) → O.find m op ≡ x → Match op F.Unknown x → Refuses m op
+  refuses-by : (x : Row) → chosen c ≡ x → Match (c .op) F.Unknown x → Refuses c
   unfolding callFields argumentsTree skippedTree
-  refuses-by (row o) e t = absurd t
-  refuses-by unknown e t = record { call = λ v. rw e; arguments = λ v. rw e; skips = λ v. rw e; reply = λ v. rw e; known = rw e }
+  refuses-by (row o) e m = absurd m
+  refuses-by unknown e m = record { call = rw e; arguments = rw e; skips = rw e; reply = rw e; known = rw e }
 
-  matched : (x y : Found) → x ≡ rowFor m op → x ≡ y → Match op y (O.find m op)
-  matched x y e q = subst (λ (z : Found). Match op z (O.find m op)) (sym e ∙ q) (match-found m op)
+  matched : (x y : Found) → x ≡ rowOf c → x ≡ y → Match (c .op) y (chosen c)
+  matched x y e q = subst (λ (z : Found). Match (c .op) z (chosen c)) (sym e ∙ q) (match-found (c .mode) (c .op))
 
   -- for a caller of `find` that has matched on its answer
-  pub found-says : (x : Found) (r : R.Row) → x ≡ rowFor m op → x ≡ F.Row r → Says m op r
-  found-says x r e q = says-by r (O.find m op) refl (matched x (F.Row r) e q)
+  pub found-says : (x : Found) (r : R.Row) → x ≡ rowOf c → x ≡ F.Row r → Says c r
+  found-says x r e q = says-by r (chosen c) refl (matched x (F.Row r) e q)
 
-  pub unknown-refuses : (x : Found) → x ≡ rowFor m op → x ≡ F.Unknown → Refuses m op
-  unknown-refuses x e q = refuses-by (O.find m op) refl (matched x F.Unknown e q)
+  pub unknown-refuses : (x : Found) → x ≡ rowOf c → x ≡ F.Unknown → Refuses c
+  unknown-refuses x e q = refuses-by (chosen c) refl (matched x F.Unknown e q)
 
 -- ---- a row at a place is what the search for its number finds: no two rows have one number
 rows-found : (m : Mode) → map (λ (r : R.Row). rowFor m (r .number)) (ownRows m) ≡ map F.Row (ownRows m)

@@ -68,8 +68,8 @@ fn read_number(
     }
 }
 
-// What a layout says that needs no fold, and whose kind nothing decides: with `kind_of` in it `read_brief` would stay out of line, and brief calls take five
-// times as long.
+// What a layout says that needs no fold, and whose kind nothing decides: with `kind_of` in it `read_brief` would stay out of line, and brief calls would take
+// four times as long. What is brief is asked first: so LLVM knows it by the operation.
 enum InBrief {
     Said(Said),
     Longer,
@@ -84,13 +84,20 @@ fn read_brief(
 ) -> InBrief
     ensures { λ r. ⌜ ReadInBrief layout code (now (s .entry)) (now (numbers .exit)) (now (counts .exit)) r ⌝ }
 {
-    if table::kinds::FIRST_CODE <= code {
-        return InBrief::Longer;
-    }
     let b = walk_items::in_brief(layout);
     match b {
-        Brief::Nothing => InBrief::Said(read_nothing(layout, code, numbers, counts)),
-        Brief::Number => InBrief::Said(read_number(s, layout, code, numbers, counts)),
+        Brief::Nothing => {
+            if code < table::kinds::FIRST_CODE {
+                return InBrief::Said(read_nothing(layout, code, numbers, counts));
+            }
+            InBrief::Longer
+        }
+        Brief::Number => {
+            if code < table::kinds::FIRST_CODE {
+                return InBrief::Said(read_number(s, layout, code, numbers, counts));
+            }
+            InBrief::Longer
+        }
         Brief::Longer => InBrief::Longer,
     }
 }
@@ -109,10 +116,10 @@ pub fn read_arguments(
     counts: &mut [u64; 3],
 ) -> Said
     ensures answer { λ r. ⌜ answerOf r (now (numbers .exit)) (now (counts .exit))
-        ≡ argumentsFilled (context mode op (version major minor)) (now (s .entry)) (now (words .entry)) (now (bytes .entry)) (now (payload .entry)) .answer ⌝ }
-    ensures words { λ r. ⌜ now (words .exit) ≡ argumentsFilled (context mode op (version major minor)) (now (s .entry)) (now (words .entry)) (now (bytes .entry)) (now (payload .entry)) .words ⌝ }
-    ensures bytes { λ r. ⌜ now (bytes .exit) ≡ argumentsFilled (context mode op (version major minor)) (now (s .entry)) (now (words .entry)) (now (bytes .entry)) (now (payload .entry)) .bytes ⌝ }
-    ensures payload { λ r. ⌜ now (payload .exit) ≡ argumentsFilled (context mode op (version major minor)) (now (s .entry)) (now (words .entry)) (now (bytes .entry)) (now (payload .entry)) .payload ⌝ }
+        ≡ argumentsFilled (context mode op major minor) (now (s .entry)) (now (words .entry)) (now (bytes .entry)) (now (payload .entry)) .answer ⌝ }
+    ensures words { λ r. ⌜ now (words .exit) ≡ argumentsFilled (context mode op major minor) (now (s .entry)) (now (words .entry)) (now (bytes .entry)) (now (payload .entry)) .words ⌝ }
+    ensures bytes { λ r. ⌜ now (bytes .exit) ≡ argumentsFilled (context mode op major minor) (now (s .entry)) (now (words .entry)) (now (bytes .entry)) (now (payload .entry)) .bytes ⌝ }
+    ensures payload { λ r. ⌜ now (payload .exit) ≡ argumentsFilled (context mode op major minor) (now (s .entry)) (now (words .entry)) (now (bytes .entry)) (now (payload .entry)) .payload ⌝ }
 {
     let shape = table_operations::arguments(mode, op);
     match shape {

@@ -85,7 +85,7 @@ module _ (c : Context) (ns b es p lent : List ℕ) (y : Shape) (e : y ≡ argume
   stays n q r f = rw (q, f) (refl, refl)
 
   pub call-unknown : y ≡ Unknown → (r : Refusal) → r ≡ plain unknownOperation 0 → Answer (refusedBy r) lent
-  call-unknown q r f = stays unknownOperation (by-fields _ (shape-refuses (c .mode) (c .op) y _ _ e q .call v)) r f
+  call-unknown q r f = stays unknownOperation (by-fields _ (shape-refuses c y _ _ e q .call)) r f
 
   module _ (i k : ℕ) (q : y ≡ At i k) (l : ℕ) (w : (versionOf l ≡ v) × (firstOf l ≡ i)) (s : ℕ) (es# : s ≡ spokenOf l) (n : ℕ) (en : n ≡ kindNumbered (versionIn s) false k) where
     kind-is : n ≡ kindNumbered v false k
@@ -94,7 +94,7 @@ module _ (c : Context) (ns b es p lent : List ℕ) (y : Shape) (e : y ≡ argume
     pub call-none : n ≡ 0 → (r : Refusal) → r ≡ plain noArguments 0 → Answer (refusedBy r) lent
     call-none z r f =
         let h : kindNumbered v false k ≡ 0 = sym kind-is ∙ z in
-        stays noArguments (by-fields (refused noArguments 0 0) (call-says (c .mode) (c .op) y i k e q v ∙ rw (eq-eqb (kindNumbered v false k) 0 h))) r f
+        stays noArguments (by-fields (refused noArguments 0 0) (call-says c y i k e q ∙ rw (eq-eqb (kindNumbered v false k) 0 h))) r f
 
     pub call-fields : (n ≡ 0 → ⊥) → (x : I.Item) → x ≡ beginItem (firstOf l) → (o : Result ℕ) (lent' : List ℕ)
         → (o ≡ writeBytes (shapeBytes ns b es p (fieldsAt l (x .pc))) lent) × (lent' ≡ afterBytes (shapeBytes ns b es p (fieldsAt l (x .pc))) lent) → Answer o lent'
@@ -103,7 +103,7 @@ module _ (c : Context) (ns b es p lent : List ℕ) (y : Shape) (e : y ≡ argume
         let g : firstFields v (groupsAt i) ≡ fieldsAt l (x .pc) =
         begins v i x (f ∙ ap beginItem (w .1)) ∙ ap (λ (u : Version). fieldsThere u (itemsAt (x .pc))) (sym (w .0)) in
         let d : callFields c ≡ ok (fieldsAt l (x .pc)) =
-        call-says (c .mode) (c .op) y i k e q v ∙ ap (λ (t : Bool). pick t (refused noArguments 0 0) (ok (firstFields v (groupsAt i)))) (ne-eqb (kindNumbered v false k) 0 h) ∙ ap ok g in
+        call-says c y i k e q ∙ ap (λ (t : Bool). pick t (refused noArguments 0 0) (ok (firstFields v (groupsAt i)))) (ne-eqb (kindNumbered v false k) 0 h) ∙ ap ok g in
         rw (by-fields (ok (fieldsAt l (x .pc))) d) a
 
 -- ---- with entries in one form, and the numbers from where they stand

@@ -4,7 +4,7 @@ ghost use mathlib.Core.Path.{_≡_};
 ghost use mathlib.Core.List.{_++_};
 ghost use Prim.Native.Nat.{_+_, _*_, _≤_, _<_};
 ghost use lib.ListN.{length, getD};
-ghost use Rattle.layouts.specs.Primitive.{version, littleAt, numberAt};
+ghost use Rattle.layouts.specs.Primitive.{littleAt, numberAt};
 ghost use Rattle.layouts.specs.Writers.{framedBytes};
 ghost use Rattle.layouts.specs.Calls.{context};
 ghost use Rattle.layouts.specs.CallWriter.{shapeBytes, callBytes, writeBytes};
@@ -176,9 +176,11 @@ fn write(
     out: &mut [u8],
 ) -> Written
     ensures answer { λ r. ⌜ meaning r
-        ≡ writeBytes (callBytes (context mode op (version major minor)) (now (numbers .entry)) (now (s .entry)) (numbersIn (now (words .entry)) (now (bytes .entry))) (now (payload .entry))) (now (out .entry)) ⌝ }
+        ≡ writeBytes (callBytes (context mode op major minor) (now (numbers .entry)) (now (s .entry)) (numbersIn (now (words .entry)) (now (bytes .entry)))
+        (now (payload .entry))) (now (out .entry)) ⌝ }
     ensures lent { λ r. ⌜ now (out .exit)
-        ≡ afterBytes (callBytes (context mode op (version major minor)) (now (numbers .entry)) (now (s .entry)) (numbersIn (now (words .entry)) (now (bytes .entry))) (now (payload .entry))) (now (out .entry)) ⌝ }
+        ≡ afterBytes (callBytes (context mode op major minor) (now (numbers .entry)) (now (s .entry)) (numbersIn (now (words .entry)) (now (bytes .entry)))
+        (now (payload .entry))) (now (out .entry)) ⌝ }
 {
     match table_operations::arguments(mode, op) {
         Shape::Unknown => Written::Refused(layouts::refuse(layouts::UNKNOWN_OPERATION, 0)),
@@ -204,8 +206,10 @@ pub fn write_op_args(
     payload: &[u8],
     out: &mut [u8],
 ) -> Written
-    ensures answer { λ r. ⌜ meaning r ≡ callWritten (context mode op (version major minor)) (fifteen «record») (now (bytes .entry)) (now (entries .entry)) (now (payload .entry)) (now (out .entry)) .answer ⌝ }
-    ensures lent { λ r. ⌜ now (out .exit) ≡ callWritten (context mode op (version major minor)) (fifteen «record») (now (bytes .entry)) (now (entries .entry)) (now (payload .entry)) (now (out .entry)) .lent ⌝ }
+    ensures answer { λ r. ⌜ meaning r
+        ≡ callWritten (context mode op major minor) (fifteen «record») (now (bytes .entry)) (now (entries .entry)) (now (payload .entry)) (now (out .entry)) .answer ⌝ }
+    ensures lent { λ r. ⌜ now (out .exit)
+        ≡ callWritten (context mode op major minor) (fifteen «record») (now (bytes .entry)) (now (entries .entry)) (now (payload .entry)) (now (out .entry)) .lent ⌝ }
 {
     let n = record.numbers;
     let c = record.counts;
@@ -294,9 +298,11 @@ pub fn write_op_args_bytes(
     out: &mut [u8],
 ) -> Written
     ensures answer { λ r. ⌜ meaning r
-        ≡ callWritten (context mode op (version major minor)) (numbersFrom 15 0 (now («record» .entry))) (now (bytes .entry)) (entriesIn (now (entries .entry))) (now (payload .entry)) (now (out .entry)) .answer ⌝ }
+        ≡ callWritten (context mode op major minor) (numbersFrom 15 0 (now («record» .entry))) (now (bytes .entry)) (entriesIn (now (entries .entry)))
+        (now (payload .entry)) (now (out .entry)) .answer ⌝ }
     ensures lent { λ r. ⌜ now (out .exit)
-        ≡ callWritten (context mode op (version major minor)) (numbersFrom 15 0 (now («record» .entry))) (now (bytes .entry)) (entriesIn (now (entries .entry))) (now (payload .entry)) (now (out .entry)) .lent ⌝ }
+        ≡ callWritten (context mode op major minor) (numbersFrom 15 0 (now («record» .entry))) (now (bytes .entry)) (entriesIn (now (entries .entry)))
+        (now (payload .entry)) (now (out .entry)) .lent ⌝ }
 {
     let numbers = [
         number_or_low(record, 0),

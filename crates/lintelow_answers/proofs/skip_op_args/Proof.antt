@@ -3,7 +3,6 @@ use borrow.Author.Needs.{needs}
 use Rattle.lintelow_answers.proofs.skip_op_args.Statement.{statement}
 use Rattle.lintelow_answers.proofs.skip_op_args.Tie as tie
 use denote.Ref.{now}
-use Rattle.layouts.specs.Primitive.{version}
 use Rattle.layouts.specs.Pieces.{run}
 use Rattle.layouts.specs.Judge.{entriesOf}
 use Rattle.layouts.specs.Calls.{context, skippedTree, skipOpArgs}
@@ -17,6 +16,6 @@ skip-op-args-spec =
     (λ c κs. search needs)
     (λ c.
     let at-start : tie.Start = search in
-    let k = context (at-start .args .mode) (at-start .args .op) (version (at-start .args .major) (at-start .args .minor)) in
+    let k = context (at-start .args .mode) (at-start .args .op) (at-start .args .major) (at-start .args .minor) in
     string-is (skipOpArgs k (now (at-start .args .s))) (entriesOf (run (skippedTree k) (now (at-start .args .s)) 0)) _ _
     (c .before .skip-op-args .ensures) (c .entries-of .ensures)))

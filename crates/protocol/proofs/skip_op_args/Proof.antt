@@ -4,7 +4,6 @@ use Rattle.protocol.proofs.skip_op_args.Statement.{statement}
 use Rattle.protocol.proofs.skip_op_args.Tie as tie
 use denote.Ref.{now}
 use Rattle.walk_read.proofs.Filled.{brief-is}
-use Rattle.layouts.specs.Primitive.{version}
 use Rattle.layouts.specs.Calls.{context, skippedKinds, skipOpArgs}
 use Rattle.table_operations.proofs.Shapes.{skipped-say, shape-refuses}
 use Rattle.protocol.proofs.Rows.{unknown-is, arguments-unknown, row-arguments, skipped-nothing}
@@ -15,19 +14,17 @@ returns c =
     let (at-start, at-skipped, at-f, at-layout) : tie.Start × tie.After-skipped × tie.After-f × tie.After-layout = search in
     let a = at-start .args in
     let g = at-layout .layout in
-    let v = version (a .major) (a .minor) in
-    let k = skippedKinds (context (a .mode) (a .op) v) in
-    let y = skipped-say (a .mode) (a .op) _ _ _ (at-skipped .skipped .ensures) (at-f .f .given .1) in
-    row-arguments v k 1 0 (now (a .s)) _ _ _ (g .ensures .0) (g .ensures .1) (y .tree v) _ (y .kind v) _ (c .skip-layout .ensures)
+    let x = context (a .mode) (a .op) (a .major) (a .minor) in
+    let y = skipped-say x _ _ _ (at-skipped .skipped .ensures) (at-f .f .given .1) in
+    row-arguments (x .spoken) (skippedKinds x) 1 0 (now (a .s)) _ _ _ (g .ensures .0) (g .ensures .1) (y .tree) _ (y .kind) _ (c .skip-layout .ensures)
 
 returns-2 : tie.Need-returns-2
 unfolding skipOpArgs
 returns-2 c =
     let (at-start, at-skipped, at-enum-told) : tie.Start × tie.After-skipped × tie.After-enum-told = search in
     let a = at-start .args in
-    let v = version (a .major) (a .minor) in
-    let k = skippedKinds (context (a .mode) (a .op) v) in
-    arguments-unknown _ _ _ _ (unknown-is v k 1 0 (now (a .s)) _ (shape-refuses (a .mode) (a .op) _ _ _ (at-skipped .skipped .ensures) (at-enum-told .enum-told .given .1) .skips v))
+    let x = context (a .mode) (a .op) (a .major) (a .minor) in
+    arguments-unknown _ _ _ _ (unknown-is (x .spoken) (skippedKinds x) 1 0 (now (a .s)) _ (shape-refuses x _ _ _ (at-skipped .skipped .ensures) (at-enum-told .enum-told .given .1) .skips))
     (c .before .refuse .ensures) (c .refused-arguments .ensures)
 
 returns-3 : tie.Need-returns-3
@@ -36,10 +33,9 @@ returns-3 c =
     let (at-start, at-skipped, at-f, at-layout, at-in-brief, at-enum-told2) : tie.Start × tie.After-skipped × tie.After-f × tie.After-layout × tie.After-in-brief × tie.After-enum-told2 = search in
     let a = at-start .args in
     let g = at-layout .layout in
-    let v = version (a .major) (a .minor) in
-    let k = skippedKinds (context (a .mode) (a .op) v) in
-    let y = skipped-say (a .mode) (a .op) _ _ _ (at-skipped .skipped .ensures) (at-f .f .given .1) in
-    row-arguments v k 1 0 (now (a .s)) _ _ _ (g .ensures .0) (g .ensures .1) (y .tree v) _ (y .kind v) _
+    let x = context (a .mode) (a .op) (a .major) (a .minor) in
+    let y = skipped-say x _ _ _ (at-skipped .skipped .ensures) (at-f .f .given .1) in
+    row-arguments (x .spoken) (skippedKinds x) 1 0 (now (a .s)) _ _ _ (g .ensures .0) (g .ensures .1) (y .tree) _ (y .kind) _
     (skipped-nothing (g .result) _ (now (a .s)) (brief-is (g .result) _ _ (at-in-brief .in-brief .ensures .1) (at-enum-told2 .enum-told2 .given .1)) _
     (rw (← c .before .spoken .ensures) (c .kind-of .ensures)))
 

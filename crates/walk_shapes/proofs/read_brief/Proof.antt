@@ -9,17 +9,18 @@ pub read-brief-spec : {M : Type 1} → statement M
 read-brief-spec =
     tie.close
     (tie.spec
-    (λ c. search needs)
     (λ c κs. search needs)
     (λ c. search needs)
     (λ c κs. (search brief-is, search needs))
-    (λ c. search needs)
-    (λ c κs. (search brief-is, search needs))
-    (λ c. search needs)
     (λ c.
     let (at-start, at-in-brief, at-enum-told) : tie.Start × tie.After-in-brief × tie.After-enum-told = search in
     (c .read-nothing .ensures _, nothing-there _ (at-start .args .code) (brief-is _ _ _ (at-in-brief .in-brief .ensures .1) (at-enum-told .enum-told .given .1)) _))
+    (λ c. search needs)
+    (λ c κs. (search brief-is, search needs))
     (λ c.
     let (at-start, at-in-brief, at-enum-told2) : tie.Start × tie.After-in-brief × tie.After-enum-told2 = search in
     (c .read-number .ensures, number-there _ (at-start .args .code) (brief-is _ _ _ (at-in-brief .in-brief .ensures .1) (at-enum-told2 .enum-told2 .given .1)) _))
+    (λ c. search needs)
+    (λ c. search needs)
+    (λ c. search needs)
     (λ c. search needs))
