@@ -98,8 +98,8 @@ pub record Refuses (c : Context) : Type 0 where
   pub known : ifKnown (chosen c) (hasFramed (c .op)) ≡ refused 9 0 0
 
 -- the packed row that a context chooses
-abbrev pub rowOf : Context → Found
-rowOf c = rowFor (c .mode) (c .op)
+abbrev pub packedRow : Context → Found
+packedRow c = rowFor (c .mode) (c .op)
 
 module _ (c : Context) where
   abbrev v : Version
@@ -137,14 +137,14 @@ module _ (c : Context) where
   refuses-by (row o) e m = absurd m
   refuses-by unknown e m = record { call = rw e; arguments = rw e; skips = rw e; reply = rw e; known = rw e }
 
-  matched : (x y : Found) → x ≡ rowOf c → x ≡ y → Match (c .op) y (chosen c)
+  matched : (x y : Found) → x ≡ packedRow c → x ≡ y → Match (c .op) y (chosen c)
   matched x y e q = subst (λ (z : Found). Match (c .op) z (chosen c)) (sym e ∙ q) (match-found (c .mode) (c .op))
 
   -- for a caller of `find` that has matched on its answer
-  pub found-says : (x : Found) (r : R.Row) → x ≡ rowOf c → x ≡ F.Row r → Says c r
+  pub found-says : (x : Found) (r : R.Row) → x ≡ packedRow c → x ≡ F.Row r → Says c r
   found-says x r e q = says-by r (chosen c) refl (matched x (F.Row r) e q)
 
-  pub unknown-refuses : (x : Found) → x ≡ rowOf c → x ≡ F.Unknown → Refuses c
+  pub unknown-refuses : (x : Found) → x ≡ packedRow c → x ≡ F.Unknown → Refuses c
   unknown-refuses x e q = refuses-by (chosen c) refl (matched x F.Unknown e q)
 
 -- ---- a row at a place is what the search for its number finds: no two rows have one number
