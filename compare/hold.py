@@ -99,6 +99,9 @@ def judge(q, rust_line, line):
         return "out"
     if rust_line == "no":
         return "DIFFERENT" if is_ours_fine else "refused"
+    if is_refusal(rust_line):
+        # of an error block in published mode number and place are known
+        return "DIFFERENT" if line != rust_line else "short" if line.startswith("no 4 ") else "refused"
     if not rust_line.startswith("ok "):
         return "DIFFERENT"
     rust = fields(rust_line)

@@ -11,9 +11,9 @@
  *
  * PAYLOAD. The bytes of framed data, joined.
  *
- * MODES. What reads, skips or writes arguments takes a mode in front of the operation: 0 for the layouts of nix-wire (ported), any other number for those
- * that daemons read (published). They differ in two operations. Published, 30 has pairs of path and content address from 1.22 on, in place of a set, and
- * 42 has two strings below 1.31, in place of one.
+ * MODES. What reads, skips or writes arguments, and what reads an error, takes a mode first: 0 for the layouts of nix-wire (ported), any other number for
+ * those of daemons (published). They differ in two operations and in errors. Published, 30 has pairs of path and content address from 1.22 on, in place of
+ * a set, and 42 has two strings below 1.31, in place of one; an error has traces from 1.26 on, and below 1.26 it is a message and an exit status.
  *
  * THE ANSWER. A call returns 0, or the number of its refusal, and writes its answer into the first 200 bytes of the block: 25 little-endian numbers of
  * eight bytes.
@@ -50,6 +50,7 @@
  *     13  no arguments: none are known for this operation and version                     0
  *     14  not of the shape: what the shape or version lacks isn't 0 or empty,             0
  *         or a flag is above 1
+ *     15  nonzero position: a position in an error block isn't 0                          that number
  *
  * The bad byte begins the string's first ill-formed sequence: the contents up to it are text, and no longer beginning of them is. The stream cut at it is
  * refused by 1, at the contents.
@@ -141,8 +142,17 @@ uint64_t lintelow_skip_daemon_result(uint64_t op, uint16_t major, uint8_t minor,
  * its code, 0x616c7473 (Last) or 0x63787470 (Error), or 0 for none: the stream may be cut there. Refusals 1, 2, 10. */
 uint64_t lintelow_read_stderr_loop(const uint8_t *s, size_t s_len, uint8_t *block, size_t block_len);
 
-/* The same, and what follows Error. Entries then: type, name, message; number 2: level. Refusals 1, 2, 3, 4, 10. */
-uint64_t lintelow_read_stderr_with_error(const uint8_t *s, size_t s_len, uint8_t *entries, size_t entries_len, uint8_t *block, size_t block_len);
+/* The same, and behind Error its block, at version major.minor. Refusals 1, 2, 3, 4, 10, 15.
+ *
+ *     kind                                       entries                        number 2       count 0
+ *     0  no Error
+ *     0  Error, ported, at any version           type, name, message            level
+ *     1  Error, published, from 1.26 on          type, name, message, traces    level          traces
+ *     2  Error, published, below 1.26            message                        exit status
+ *
+ * Of kind 1 the error has a position, and so has each trace: a number that must be 0, else 15. A position that is cut short is refused by 1. */
+uint64_t lintelow_read_stderr_with_error(uint8_t mode, uint16_t major, uint8_t minor, const uint8_t *s, size_t s_len, uint8_t *entries,
+                                         size_t entries_len, uint8_t *block, size_t block_len);
 
 /* Both sides of a handshake. Kind 0. Refusals 1, 2, 3, 4, 6, 7, 8, 10.
  * Entries: the client's features, in its stream; the daemon's features and, where number 6 is 1, its version string, in the daemon's stream.

@@ -121,6 +121,7 @@ LETTERS = {
     ("framed",): "F",
     ("maybe",): "flag with n",
     ("typed",): "typed",
+    ("position",): "position",
 }
 
 
@@ -147,7 +148,7 @@ def shape_of(groups):
 # ---- packing: the numbers are those that crates/table/specs/Table.antt takes apart
 
 GATES = {"always": 0, "from": 1, "below": 2}
-WHATS = {"num": 1, "str": 2, "set": 3, "pairs": 4, "framed": 5, "maybe": 6, "typed": 7}
+WHATS = {"num": 1, "str": 2, "set": 3, "pairs": 4, "framed": 5, "maybe": 6, "typed": 7, "position": 8}
 ROLES = {"passed": 0, "checked": 1, "kept": 2}
 GROUPS = {"once": 1, "opt": 2, "many": 3}
 # the first of them, and how many the record has

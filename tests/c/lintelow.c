@@ -8,6 +8,7 @@
 #define FILL 0xa5
 #define LAST 0x616c7473
 #define ERROR 0x63787470
+#define NEXT 0x6f6c6d67
 #define CLIENT 0x6e697863
 #define DAEMON 0x6478696f
 
@@ -220,21 +221,188 @@ static void messages(void) {
     EXPECT("count", at(block, NUMBERS), 1);
     EXPECT("terminal code", at(block, NUMBERS + 1), ERROR);
     EXPECT("end", at(block, END), 8);
-    CALLED("read_stderr_with_error", 0, lintelow_read_stderr_with_error(s, s_len, entries, sizeof entries, block, n));
+    CALLED("read_stderr_with_error", 0, lintelow_read_stderr_with_error(LINTELOW_PORTED, 1, 38, s, s_len, entries, sizeof entries, block, n));
+    EXPECT("kind", at(block, KIND), 0);
     EXPECT("level", at(block, NUMBERS + 2), 1);
+    EXPECT("traces", at(block, COUNTS), 0);
     EXPECT("entries", at(block, ENTRIES), 3);
     EXPECT("end", at(block, END), s_len);
     EXPECT("length of message", at(entries, 5), 7);
-    CALLED("read_stderr_with_error, cut short", 1, lintelow_read_stderr_with_error(s, s_len - 8, entries, sizeof entries, block, n));
+    CALLED("read_stderr_with_error, cut short", 1,
+           lintelow_read_stderr_with_error(LINTELOW_PORTED, 1, 38, s, s_len - 8, entries, sizeof entries, block, n));
     EXPECT("place", at(block, PLACE), s_len - 8);
 
     CALLED("read_stderr_loop of nothing", 0, lintelow_read_stderr_loop(NULL, 0, block, n));
     EXPECT("terminal code", at(block, NUMBERS + 1), 0);
-    CALLED("read_stderr_with_error of nothing", 0, lintelow_read_stderr_with_error(NULL, 0, NULL, 0, block, n));
+    CALLED("read_stderr_with_error of nothing", 0, lintelow_read_stderr_with_error(LINTELOW_PORTED, 1, 38, NULL, 0, NULL, 0, block, n));
+    CALLED("read_stderr_with_error of nothing", 0, lintelow_read_stderr_with_error(LINTELOW_PUBLISHED, 1, 38, NULL, 0, NULL, 0, block, n));
     s_len = 0;
-    number(0x6f6c6d67), number(268435457);
+    number(NEXT), number(268435457);
     CALLED("read_stderr_loop, too long", 2, lintelow_read_stderr_loop(s, s_len, block, n));
     EXPECT("place", at(block, PLACE), 8);
+}
+
+/* What one mode makes of an error at a version; `number` is the level or the exit status. */
+struct error {
+    uint64_t kind, end, number, traces;
+    size_t entries;
+};
+
+/* `places` has the start and the length of each entry. */
+static void error_in(int line, uint8_t mode, uint16_t major, uint8_t minor, struct error of, const uint64_t *places) {
+    uint64_t messages = at(s, 0) == NEXT ? 2 : 1;
+    size_t i;
+    CALLED("read_stderr_with_error in a mode", 0, lintelow_read_stderr_with_error(mode, major, minor, s, s_len, entries, sizeof entries, block, n));
+    expect(line, "kind", at(block, KIND), of.kind);
+    expect(line, "end", at(block, END), of.end);
+    expect(line, "end2", at(block, END2), 0);
+    expect(line, "entries", at(block, ENTRIES), of.entries);
+    expect(line, "payload", at(block, PAYLOAD), 0);
+    expect(line, "messages", at(block, NUMBERS), messages);
+    expect(line, "terminal code", at(block, NUMBERS + 1), ERROR);
+    expect(line, "level or exit status", at(block, NUMBERS + 2), of.number);
+    for (i = NUMBERS + 3; i < COUNTS; i++) expect(line, "a number that an error lacks", at(block, i), 0);
+    expect(line, "traces", at(block, COUNTS), of.traces);
+    for (i = COUNTS + 1; i < LATER; i++) expect(line, "a count that an error lacks", at(block, i), 0);
+    for (i = 0; i < 2 * of.entries; i++) expect(line, "start or length", at(entries, i), places[i]);
+    expect(line, "slots kept", filled(entries, sizeof entries), sizeof entries - of.entries * LINTELOW_ENTRY);
+    expect(line, "payload's room kept", filled(payload, sizeof payload), sizeof payload);
+}
+
+/* A message, and an error from 1.26 on with so many traces. */
+static void traced(size_t traces) {
+    s_len = 0;
+    number(NEXT), string("log"); /* 0, 8 */
+    number(ERROR), string("Error"), number(3), string("name"), string("message"); /* 24, 32, 48, 56, 72 */
+    number(0), number(traces); /* 88, 96 */
+    if (traces > 0) number(0), string("first"); /* 104, 112 */
+    if (traces > 1) number(0), string("second trace"); /* 128, 136 */
+}
+
+/* Errors by mode and version. */
+static void errors(void) {
+    static const uint8_t published[4] = {LINTELOW_PUBLISHED, 2, 128, 255};
+    /* start and length: type, name, message, two traces; a message alone */
+    static const uint64_t strings[10] = {40, 5, 64, 4, 80, 7, 120, 5, 144, 12}, message[2] = {16, 7};
+    static const uint64_t ends[3] = {104, 128, 160};
+    static const uint64_t empty[6] = {16, 0, 32, 0, 40, 0};
+    static const struct error ported = {0, 48, 0, 0, 3}, none = {1, 56, 0, 0, 3}, shorter = {2, 24, 0, 0, 1};
+    size_t i, traces;
+    for (traces = 0; traces <= 2; traces++) {
+        struct error of = {1, 0, 3, 0, 3};
+        of.end = ends[traces], of.traces = traces, of.entries += traces;
+        traced(traces);
+        EXPECT("the stream's end", s_len, of.end);
+        number(LAST); /* of the next call */
+        for (i = 0; i < sizeof published; i++) {
+            error_in(__LINE__, published[i], 1, 26, of, strings);
+            error_in(__LINE__, published[i], 1, 38, of, strings);
+        }
+        error_in(__LINE__, LINTELOW_PUBLISHED, 2, 0, of, strings);
+        of.kind = 0, of.end = 96, of.traces = 0, of.entries = 3; /* it ends at the position */
+        error_in(__LINE__, LINTELOW_PORTED, 1, 26, of, strings);
+    }
+
+    s_len = 0; /* below 1.26: message and exit status */
+    number(ERROR), string("message"), number(100), number(LAST);
+    for (i = 0; i < sizeof published; i++) {
+        static const struct error of = {2, 32, 100, 0, 1};
+        error_in(__LINE__, published[i], 1, 25, of, message);
+        error_in(__LINE__, published[i], 1, 21, of, message);
+    }
+
+    s_len = 0; /* the smallest bytes that show the difference */
+    number(ERROR), number(0), number(0), number(0), number(0), number(0), number(0);
+    for (i = 0; i < sizeof published; i++) {
+        error_in(__LINE__, published[i], 1, 25, shorter, empty);
+        error_in(__LINE__, published[i], 1, 26, none, empty);
+    }
+    error_in(__LINE__, LINTELOW_PUBLISHED, 0, 255, shorter, empty);
+    error_in(__LINE__, LINTELOW_PUBLISHED, 2, 0, none, empty);
+    error_in(__LINE__, LINTELOW_PUBLISHED, 65535, 255, none, empty);
+    error_in(__LINE__, LINTELOW_PORTED, 0, 255, ported, empty);
+    error_in(__LINE__, LINTELOW_PORTED, 1, 25, ported, empty);
+    error_in(__LINE__, LINTELOW_PORTED, 1, 26, ported, empty);
+    error_in(__LINE__, LINTELOW_PORTED, 2, 0, ported, empty);
+
+    s_len = 0; /* no error */
+    number(NEXT), string("log"), number(LAST);
+    for (i = 25; i <= 26; i++) {
+        CALLED("read_stderr_with_error, Last", 0,
+               lintelow_read_stderr_with_error(LINTELOW_PUBLISHED, 1, (uint8_t)i, s, s_len, entries, sizeof entries, block, n));
+        EXPECT("kind", at(block, KIND), 0);
+        EXPECT("end", at(block, END), s_len);
+        EXPECT("messages", at(block, NUMBERS), 2);
+        EXPECT("terminal code", at(block, NUMBERS + 1), LAST);
+        EXPECT("slots kept", filled(entries, sizeof entries), sizeof entries);
+    }
+}
+
+/* A published error that is refused, with room for so many bytes of entries; where. */
+#define REFUSED(name, minor, room, should_be, place)                                                                                         \
+    do {                                                                                                                                     \
+        CALLED(name, should_be, lintelow_read_stderr_with_error(LINTELOW_PUBLISHED, 1, minor, s, s_len, entries, room, block, n));           \
+        EXPECT("place", at(block, PLACE), place);                                                                                            \
+        EXPECT("stream", at(block, STREAM), 0);                                                                                              \
+    } while (0)
+
+static void refused_errors(void) {
+    static const size_t positions[3] = {88, 104, 128};
+    size_t i, b;
+    for (i = 0; i < 3; i++) {
+        for (b = 0; b < 8; b++) {
+            traced(2);
+            s[positions[i] + b] = 1;
+            REFUSED("an error, a position not 0", 26, sizeof entries, 15, positions[i]);
+        }
+        s_len = positions[i] + 7, s[positions[i]] = 1;
+        REFUSED("an error, a position cut short", 26, sizeof entries, 1, positions[i]);
+    }
+    traced(1);
+    s[88] = 1; /* to nix-wire a string and two numbers follow */
+    CALLED("an error, ported, a position", 0, lintelow_read_stderr_with_error(LINTELOW_PORTED, 1, 26, s, s_len, entries, sizeof entries, block, n));
+    EXPECT("end", at(block, END), 128);
+
+    traced(2); /* too few slots: the string's length */
+    REFUSED("an error, no slot", 26, 15, 4, 32);
+    REFUSED("an error, 2 slots", 26, 47, 4, 72);
+    REFUSED("an error, 3 slots", 26, 3 * LINTELOW_ENTRY, 4, 112);
+    REFUSED("an error, 4 slots", 26, 5 * LINTELOW_ENTRY - 1, 4, 136);
+    CALLED("an error, 5 slots", 0,
+           lintelow_read_stderr_with_error(LINTELOW_PUBLISHED, 1, 26, s, s_len, entries, 5 * LINTELOW_ENTRY, block, n));
+
+    s[88] = 1; /* in the order of the stream */
+    REFUSED("an error, 2 slots, a position", 26, 47, 4, 72);
+    REFUSED("an error, 3 slots, a position", 26, 3 * LINTELOW_ENTRY, 15, 88);
+    s[85] = 0xff;
+    REFUSED("an error, bad text, a position", 26, sizeof entries, 3, 85);
+    traced(2);
+    s[104] = 1;
+    REFUSED("an error, 3 slots, of a trace", 26, 3 * LINTELOW_ENTRY, 15, 104);
+    s[104] = 0, s[122] = 0xff;
+    REFUSED("an error, bad text in a trace", 26, sizeof entries, 3, 122);
+    REFUSED("an error, 3 slots, bad text", 26, 3 * LINTELOW_ENTRY, 3, 122);
+    s[128] = 1;
+    REFUSED("an error, bad text, then 15", 26, sizeof entries, 3, 122);
+
+    traced(1);
+    s[96] = 2; /* a trace is missing; 2^64 - 1 of them are */
+    REFUSED("an error, a trace missing", 26, sizeof entries, 1, 128);
+    memset(s + 96, 0xff, 8);
+    REFUSED("an error, all traces missing", 26, sizeof entries, 1, 128);
+    s_len = 103;
+    REFUSED("an error, the count cut short", 26, sizeof entries, 1, 96);
+
+    s_len = 0;
+    number(ERROR), string("message"), number(100);
+    REFUSED("an error below 1.26, no slot", 25, 15, 4, 8);
+    s_len -= 1;
+    REFUSED("an error below 1.26, cut short", 25, sizeof entries, 1, 24);
+    s[20] = 0xff;
+    REFUSED("an error below 1.26, bad text", 25, sizeof entries, 3, 20);
+    s_len = 0;
+    number(ERROR), number(268435457);
+    REFUSED("an error below 1.26, too long", 25, sizeof entries, 2, 8);
 }
 
 static void handshakes(void) {
@@ -477,6 +645,8 @@ int main(void) {
     modes();
     replies();
     messages();
+    errors();
+    refused_errors();
     handshakes();
     pieces();
     writers();

@@ -31,7 +31,17 @@ of_an_operation! {
 
 extern "C" {
     fn lintelow_skip_op_args(mode: u8, op: u64, major: u16, minor: u8, s: *const u8, s_len: usize, block: *mut u8, block_len: usize) -> u64;
-    fn lintelow_read_stderr_with_error(s: *const u8, s_len: usize, entries: *mut u8, entries_len: usize, block: *mut u8, block_len: usize) -> u64;
+    fn lintelow_read_stderr_with_error(
+        mode: u8,
+        major: u16,
+        minor: u8,
+        s: *const u8,
+        s_len: usize,
+        entries: *mut u8,
+        entries_len: usize,
+        block: *mut u8,
+        block_len: usize,
+    ) -> u64;
     fn lintelow_read_stderr_loop(s: *const u8, s_len: usize, block: *mut u8, block_len: usize) -> u64;
     fn lintelow_skip_daemon_result(op: u64, major: u16, minor: u8, s: *const u8, s_len: usize, block: *mut u8, block_len: usize) -> u64;
 }
@@ -65,7 +75,7 @@ impl<'s> Boundary<'s> {
             match self.what {
                 What::ReadArguments => lintelow_read_op_args(MODE, op, major, minor, s, length, entries, slots, payload, room, block, BLOCK),
                 What::SkipArguments => lintelow_skip_op_args(MODE, op, major, minor, s, length, block, BLOCK),
-                What::StderrWithError => lintelow_read_stderr_with_error(s, length, entries, slots, block, BLOCK),
+                What::StderrWithError => lintelow_read_stderr_with_error(MODE, major, minor, s, length, entries, slots, block, BLOCK),
                 What::StderrLoop => lintelow_read_stderr_loop(s, length, block, BLOCK),
                 What::ReadReply => lintelow_read_daemon_result(op, major, minor, s, length, entries, slots, payload, room, block, BLOCK),
                 What::SkipReply => lintelow_skip_daemon_result(op, major, minor, s, length, block, BLOCK),

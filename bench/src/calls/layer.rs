@@ -20,7 +20,7 @@ impl<'s> Layer<'s> {
         match self.what {
             What::ReadArguments => taken(raw::read_op_args(Mode::Ported, op, version, bytes, entries, payload)),
             What::SkipArguments => taken(raw::skip_op_args(Mode::Ported, op, version, bytes)),
-            What::StderrWithError => taken(raw::read_stderr_with_error(bytes, entries)),
+            What::StderrWithError => taken(raw::read_stderr_with_error(Mode::Ported, version, bytes, entries)),
             What::StderrLoop => taken(raw::read_stderr_loop(bytes)),
             What::ReadReply => taken(raw::read_daemon_result(op, version, bytes, entries, payload)),
             What::SkipReply => taken(raw::skip_daemon_result(op, version, bytes)),

@@ -3,6 +3,7 @@ use super::{Call, Room, What};
 use lintelow::{raw, Answer, Mode, Refusal};
 use nix_wire::answer::{self, Answer as Theirs};
 use nix_wire::line::Line;
+use nix_wire::ops::Op;
 use nix_wire::request::Request;
 
 /// The number that the comparison with the Rust has for it.
@@ -26,7 +27,7 @@ fn ours<'r>(what: What, call: &Call, room: &'r mut Room) -> Result<Answer<'r>, R
         What::ReadReply => raw::read_daemon_result(op, version, bytes, entries, payload),
         What::SkipReply => raw::skip_daemon_result(op, version, bytes),
         What::StderrLoop => raw::read_stderr_loop(bytes),
-        What::StderrWithError => raw::read_stderr_with_error(bytes, entries),
+        What::StderrWithError => raw::read_stderr_with_error(Mode::Ported, version, bytes, entries),
     }
 }
 
@@ -53,8 +54,11 @@ fn agree(what: What, call: &Call, ours: &Answer, theirs: &Line) -> bool {
     all && (ours.numbers, ours.counts) == (theirs.numbers, theirs.counts) && ours.payload == theirs.payload && strings.eq(&theirs.strings)
 }
 
-/// Whether the sides read the call: not if they refuse it, or if its arguments are none of those that are read.
+/// Whether the sides read the call: not if they have no such operation or refuse it, or if its arguments are none of those that are read.
 pub fn is_read(what: What, call: &Call) -> bool {
+    if Op::from_u64(call.op).is_none() {
+        return false;
+    }
     let mut room = Room::enough(&[*call]);
     match (ours(what, call, &mut room), theirs(what, call)) {
         (Ok(ours), Some(theirs)) => {

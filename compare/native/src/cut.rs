@@ -1,4 +1,5 @@
-//! Streams that a call passes to an end: cut at any byte before it, they are refused by 1, and bytes behind it change nothing.
+//! Streams that a call passes to an end: cut at any byte before it, they are refused by 1, and bytes behind it change nothing. Messages before an error may
+//! end early: cut in them, a stream is passed where nix-wire passes it.
 use crate::judge::{judge, Verdict};
 use crate::lent::Lent;
 use crate::limit::row;
@@ -16,9 +17,14 @@ use std::time::Instant;
 
 const COLUMNS: [&str; 4] = ["whole", "cut short", "same", "DIFFERENT"];
 const WHOLE: usize = 0;
+const REFUSED: usize = 1;
+const SAME: usize = 2;
 const DIFFERENT: usize = 3;
 
 const CUT_SHORT: u64 = 1;
+
+const READ_STDERR_LOOP: u64 = 5;
+const READ_STDERR_WITH_ERROR: u64 = 6;
 
 // Bytes that are added, at most.
 const TAIL: usize = 40;
@@ -28,21 +34,19 @@ enum Due<'w> {
     /// The refusal names the stream that is cut: 1 for the daemon's stream of a handshake, else 0.
     CutShort(u64),
     Same(&'w Success),
+    /// By 1, or passed.
+    AsRust,
 }
 
 impl Due<'_> {
-    fn column(&self) -> usize {
-        match self {
-            Due::CutShort(_) => 1,
-            Due::Same(_) => 2,
-        }
-    }
-
-    fn is_met(&self, verdict: Verdict, ours: &Said) -> bool {
+    /// The verdict's column, where it is met.
+    fn met(&self, verdict: Verdict, ours: &Said) -> Option<usize> {
         match (self, &ours.answer) {
-            (Due::CutShort(stream), Err(r)) => verdict == Verdict::Refused && (r.number, r.stream) == (CUT_SHORT, *stream),
-            (Due::Same(whole), Ok(a)) => verdict == Verdict::Same && a == *whole,
-            _ => false,
+            (Due::CutShort(stream), Err(r)) if verdict == Verdict::Refused && (r.number, r.stream) == (CUT_SHORT, *stream) => Some(REFUSED),
+            (Due::Same(whole), Ok(a)) if verdict == Verdict::Same && a == *whole => Some(SAME),
+            (Due::AsRust, Err(r)) if verdict == Verdict::Refused && (r.number, r.stream) == (CUT_SHORT, 0) => Some(REFUSED),
+            (Due::AsRust, Ok(_)) if verdict == Verdict::Same => Some(SAME),
+            _ => None,
         }
     }
 }
@@ -81,10 +85,9 @@ impl Changed<'_> {
 
     fn hold(&mut self, due: &Due) {
         let (rust, ours) = self.both();
-        if due.is_met(judge(&self.q, &rust, &ours), &ours) {
-            self.tally.count(&self.q, due.column());
-        } else {
-            self.differs(rust, ours);
+        match due.met(judge(&self.q, &rust, &ours), &ours) {
+            Some(column) => self.tally.count(&self.q, column),
+            None => self.differs(rust, ours),
         }
     }
 
@@ -123,8 +126,10 @@ impl Changed<'_> {
     /// At every byte, also of those before the place.
     fn cut(&mut self, which: u64) {
         let due = Due::CutShort(which);
+        let messages = messages(&self.q);
         while self.stream(which).pop().is_some() {
-            self.hold(&due);
+            let is_in_messages = self.stream(which).len() < messages;
+            self.hold(if is_in_messages { &Due::AsRust } else { &due });
         }
         while self.before > 0 {
             self.before -= 1;
@@ -149,12 +154,21 @@ impl Changed<'_> {
     }
 }
 
-/// The number of call and mode, and operation and version, both versions or the place.
+/// Where messages end and their error's block begins; 0 where the call has none.
+fn messages(q: &Request) -> usize {
+    match answer(&Request { call: READ_STDERR_LOOP, ..q.clone() }) {
+        Answer::Ok(line) if q.call == READ_STDERR_WITH_ERROR => line.end,
+        _ => 0,
+    }
+}
+
+/// The number of call and mode, and operation and version, both versions, the place, or version, kind and up to two traces.
 type Tried = (u64, [u64; 4]);
 
 fn tried(q: &Request, at: usize, whole: &Success) -> Tried {
     let what = match q.call {
         1..=4 => [q.operation, q.major, q.minor, 0],
+        READ_STDERR_WITH_ERROR => [q.major, q.minor, whole.kind, whole.counts[0].min(2)],
         7 | 8 => [q.major, q.minor, whole.numbers[2], whole.numbers[3]],
         _ => [at as u64, 0, 0, 0],
     };
@@ -172,6 +186,9 @@ fn one(index: usize, q: Request, lent: &mut Lent, tally: &mut Tally) -> Option<T
 // 1.9 to 1.38, 0.255, 2.0 and 65535.255.
 const VERSIONS: usize = 33;
 
+// Of these 1.9 to 1.25 and 0.255: errors have no traces there.
+const WITHOUT_TRACES: usize = 18;
+
 // Those that the library knows.
 fn operations() -> usize {
     (0..1000).filter(|&op| raw::op_has_client_framed_data(op).is_ok()).count()
@@ -180,6 +197,8 @@ fn operations() -> usize {
 fn to_be_tried(number: u64) -> usize {
     match number {
         1..=4 | 65 | 66 => operations() * VERSIONS,
+        6 => VERSIONS,
+        70 => WITHOUT_TRACES + 3 * (VERSIONS - WITHOUT_TRACES),
         7 | 8 => VERSIONS * VERSIONS,
         9..=17 => PLACES,
         _ => 0,
@@ -192,7 +211,7 @@ fn are_all_tried(all: &BTreeSet<Tried>) -> bool {
     for number in 0..128 {
         let (there, due) = (all.iter().filter(|t| t.0 == number).count(), to_be_tried(number));
         if there != due {
-            println!("native: {} passed streams of {there} operations and versions, pairs of versions or places, not of {due}", name(number));
+            println!("native: {} passed streams of {there} operations, versions, pairs of versions or places, not of {due}", name(number));
             are_all = false;
         }
     }

@@ -24,6 +24,7 @@ impl Verdict {
 }
 
 const BAD_TEXT: u64 = 3;
+const NO_SLOT: u64 = 4;
 
 fn reads(call: u64) -> bool {
     matches!(call, 1..=18)
@@ -46,7 +47,7 @@ fn shortage(q: &Request, rust: &Line) -> Vec<u64> {
     let is_over = rust.payload.len() as u64 > q.room;
     let mut due = Vec::new();
     if takes_slots(q.call) && rust.strings.len() as u64 > q.slots {
-        due.push(4);
+        due.push(NO_SLOT);
     }
     if takes_room(q.call) && is_over {
         due.push(5);
@@ -115,12 +116,27 @@ fn against(q: &Request, rust: &Line, ours: &Said) -> Verdict {
     }
 }
 
+/// Refused by this number at this place, and by no other.
+fn as_due(number: u64, place: usize, ours: &Said) -> Verdict {
+    match &ours.answer {
+        Err(r) if (r.number, r.place, r.stream) == (number, place, 0) => match number {
+            BAD_TEXT => Verdict::BadByte,
+            NO_SLOT => Verdict::Short,
+            _ => Verdict::Refused,
+        },
+        _ => Verdict::Different,
+    }
+}
+
 pub fn judge(q: &Request, rust: &Answer, ours: &Said) -> Verdict {
+    // of ported mode
     let is_known = |number| (1..=12).contains(&number);
-    if !ours.is_kept || ours.answer.as_ref().is_err_and(|r| !is_known(r.number)) {
+    if !ours.is_kept {
         return Verdict::Different;
     }
     match rust {
+        Answer::Due(number, place) => as_due(*number, *place, ours),
+        _ if ours.answer.as_ref().is_err_and(|r| !is_known(r.number)) => Verdict::Different,
         Answer::Out => Verdict::Out,
         Answer::No(bad) => match (&ours.answer, bad) {
             (Err(r), Some(bad)) if r.number == BAD_TEXT && reads(q.call) => {

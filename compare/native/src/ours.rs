@@ -25,7 +25,7 @@ const CALLS: [(u64, &str, Ask); 30] = [
     (3, "read_daemon_result", |q, e, p| raw::read_daemon_result(q.op, q.version, q.a, e, p)),
     (4, "skip_daemon_result", |q, _, _| raw::skip_daemon_result(q.op, q.version, q.a)),
     (5, "read_stderr_loop", |q, _, _| raw::read_stderr_loop(q.a)),
-    (6, "read_stderr_with_error", |q, e, _| raw::read_stderr_with_error(q.a, e)),
+    (6, "read_stderr_with_error", |q, e, _| raw::read_stderr_with_error(q.mode, q.version, q.a, e)),
     (7, "parse_handshake", |q, e, _| raw::parse_handshake(q.a, q.b, e)),
     (8, "parse_daemon_handshake", |q, e, _| raw::parse_daemon_handshake(q.version, q.b, e)),
     (9, "read_u64", |q, _, _| raw::read_u64(q.s, q.at)),
@@ -79,7 +79,7 @@ pub fn name(number: u64) -> String {
 
 /// The request, and in published mode too what it comes to there, where the call takes a mode.
 pub fn in_both_modes(q: Request) -> impl Iterator<Item = Request> {
-    let published = published::forms(q.clone()).into_iter().filter(|p| matches!(p.call, 1 | 2));
+    let published = published::forms(q.clone()).into_iter().filter(|p| matches!(p.call, 1 | 2 | 6));
     iter::once(q).chain(published)
 }
 

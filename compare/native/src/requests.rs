@@ -43,7 +43,9 @@ pub fn one(index: usize, q: &Request, lent: &mut Lent, tally: &mut Tally) {
     let rust = answer(q);
     let ours = ask(q, lent);
     let mut verdict = judge(q, &rust, &ours);
-    if verdict == Verdict::BadByte && !are_contents_cut(q, &rust, &ours, lent) {
+    // where a place is due it is known
+    let is_due = matches!(rust, Answer::Due(..));
+    if verdict == Verdict::BadByte && !is_due && !are_contents_cut(q, &rust, &ours, lent) {
         verdict = Verdict::Different;
     }
     tally.count(q, verdict as usize);
@@ -73,7 +75,7 @@ pub fn by_threads(
 /// Is there no difference?
 pub fn run(seed: u64, count: usize, threads: usize) -> bool {
     let began = Instant::now();
-    let requests = generate::requests(seed).take(count).flat_map(in_both_modes).chain(generate::published(seed));
+    let requests = generate::requests(seed).take(count).flat_map(in_both_modes).chain(generate::published(seed, count));
     let tally = by_threads(threads, requests, &Verdict::NAMES, |index, q, lent, tally| one(index, &q, lent, tally));
     tally.print();
     tally.conclude(&format!("of seed {seed}"), began)

@@ -97,10 +97,10 @@ impl Tally {
 
     pub fn print(&self) {
         let head: String = self.columns.iter().map(|name| format!("{name:>11}")).collect();
-        println!("{:<30}{head}", "call");
+        println!("{:<39}{head}", "call");
         let line = |name: &str, counts: &[u64]| {
             let cells: String = counts.iter().map(|n| format!("{n:>11}")).collect();
-            println!("{name:<30}{cells}");
+            println!("{name:<39}{cells}");
         };
         for (&number, counts) in &self.counts {
             line(&format!("{number:>2} {}", name(number)), counts);

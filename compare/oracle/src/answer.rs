@@ -1,6 +1,6 @@
 //! One request, one answer.
 use crate::request::Request;
-use crate::{conversation, primitives, published};
+use crate::{conversation, error_blocks, primitives, published};
 use std::any::Any;
 use std::panic;
 
@@ -11,6 +11,7 @@ fn by_call(q: &Request) -> Answer {
     match (q.call, published::alike(q)) {
         (1, Some(a)) => published::read(q, a).into(),
         (2, Some(a)) => published::skip(q, a).into(),
+        (6, _) if q.is_published => error_blocks::answer(q),
         (1..=8, _) => conversation::answer(q),
         (9..=18, _) => primitives::read(q),
         (20..=24 | 26..=28, _) => primitives::write(q),

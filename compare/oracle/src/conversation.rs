@@ -190,7 +190,7 @@ fn reply(data: ResultData) -> Line {
     }
 }
 
-fn stderr(result: StderrResult, error: Option<ErrorInfo>) -> Line {
+pub fn stderr(result: StderrResult, error: Option<ErrorInfo>) -> Line {
     let terminal = result.terminal.map_or(0, |code| code as u64);
     match error {
         None => Line::default().numbers(&[result.count, terminal]),

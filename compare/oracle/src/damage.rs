@@ -5,7 +5,10 @@ use crate::stream::Stream;
 /// The limit of lengths, and one more.
 pub const LIMIT: u64 = 268435456;
 
-fn change_number(bytes: &mut [u8], at: usize, x: u64) {
+/// What no position may be: a bit in each byte, and numbers that could be told for 0.
+pub const NO_POSITIONS: [u64; 10] = [1, 2, 1 << 8, 1 << 16, 1 << 24, 1 << 32, 1 << 40, 1 << 48, 1 << 63, u64::MAX];
+
+pub fn change_number(bytes: &mut [u8], at: usize, x: u64) {
     bytes[at..at + 8].copy_from_slice(&x.to_le_bytes());
 }
 
@@ -26,6 +29,22 @@ fn change_length(s: &mut Stream) {
         _ => s.dice.pick(&[LIMIT - 1, LIMIT, LIMIT + 1, 1 << 32, 1 << 63, u64::MAX, s.bytes.len() as u64]),
     };
     change_number(&mut s.bytes, at, x);
+}
+
+fn change_one(s: &mut Stream, places: &[usize], numbers: &[u64]) {
+    if !places.is_empty() {
+        let (at, x) = (s.dice.pick(places), s.dice.pick(numbers));
+        change_number(&mut s.bytes, at, x);
+    }
+}
+
+/// A position that is not 0, or a count that no stream has: around an error nix-wire makes no room for so many.
+pub fn damage_error(s: &mut Stream) {
+    match s.dice.below(16) {
+        0..=3 => change_one(s, &s.positions.clone(), &NO_POSITIONS),
+        4 => change_one(s, &s.counts.clone(), &[1 << 32, 1 << 61, 1 << 63, u64::MAX]),
+        _ => {}
+    }
 }
 
 // Never above the stream's length: such counts are outside the domain.

@@ -1,7 +1,7 @@
 //! The tables, then without end requests of all calls, damaged as often as not, with room that is enough, exactly enough or one short.
-use crate::damage::damage;
+use crate::damage::{damage, damage_error};
 use crate::dice::Dice;
-use crate::layouts::{self, Version};
+use crate::layouts::{self, Block, Version};
 use crate::request::Request;
 use crate::stream::{rough, text, Stream};
 use crate::{published, tables};
@@ -15,8 +15,13 @@ pub fn requests(seed: u64) -> impl Iterator<Item = Request> {
 // Of those that published mode reads otherwise, for each call and version.
 const DAMAGED: usize = 10;
 
-/// Requests for what published mode reads otherwise, at every version: whole, each string made bad text, damaged.
-pub fn published(seed: u64) -> impl Iterator<Item = Request> {
+/// Requests for what published mode reads otherwise, beside so many of ported mode.
+pub fn published(seed: u64, count: usize) -> impl Iterator<Item = Request> {
+    otherwise(seed).chain(errors(seed, count / ERRORS))
+}
+
+// Arguments at every version: whole, each string made bad text, damaged.
+fn otherwise(seed: u64) -> impl Iterator<Item = Request> {
     let dice = &mut Dice::new(seed);
     let mut all = Vec::new();
     for (call, operation) in [(1, 47), (2, 47), (3, 41), (4, 41)] {
@@ -27,6 +32,44 @@ pub fn published(seed: u64) -> impl Iterator<Item = Request> {
         }
     }
     all.into_iter().flat_map(published::forms).filter(|p| matches!(p.operation, 30 | 42))
+}
+
+// There is one by chance for so many requests of ported mode.
+const ERRORS: usize = 10;
+
+// Error blocks, in both modes: a block of the one is often asked in the other.
+fn errors(seed: u64, count: usize) -> impl Iterator<Item = Request> {
+    let mut dice = Dice::new(seed);
+    let first = tables::errors(&mut dice);
+    let all = first.into_iter().chain(std::iter::repeat_with(move || error(&mut dice)).take(count));
+    all.flat_map(|q| [q.clone(), Request { is_published: true, ..q }])
+}
+
+fn error_version(dice: &mut Dice) -> Version {
+    match dice.below(4) {
+        0 => (dice.below(3) as u64, dice.below(256) as u64),
+        1 => (1, 24 + dice.below(4) as u64),
+        2 => (dice.below(65536) as u64, dice.below(256) as u64),
+        _ => dice.pick(&tables::error_versions()),
+    }
+}
+
+fn error(dice: &mut Dice) -> Request {
+    let (major, minor) = error_version(dice);
+    let mut s = Stream::new(dice, false);
+    let block = match s.dice.below(6) {
+        0 => Block::Ported,
+        1 => Block::Short,
+        _ => Block::Traced(s.many()),
+    };
+    layouts::error(&mut s, block);
+    damage_error(&mut s);
+    if s.dice.one_in(2) {
+        damage(&mut s);
+    }
+    let (a, kept) = (s.bytes, s.kept);
+    let slots = if dice.one_in(6) { dice.below(kept + 1) as u64 } else { lent(dice, kept) };
+    Request { call: 6, major, minor, slots, a, ..Request::default() }
 }
 
 /// Streams to be passed whole.

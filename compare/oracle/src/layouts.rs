@@ -192,27 +192,55 @@ fn message(s: &mut Stream) {
     }
 }
 
-fn error_block(s: &mut Stream) {
+/// An error block: nix-wire's; the published source's from 1.26 on, with so many traces; the one below.
+#[derive(Clone, Copy)]
+pub enum Block {
+    Ported,
+    Traced(usize),
+    Short,
+}
+
+fn error_block(s: &mut Stream, block: Block) {
     s.s();
     s.n();
+    if let Block::Short = block {
+        return;
+    }
     s.s();
     s.s();
-    if s.flag() {
+    if let Block::Traced(n) = block {
+        s.position();
+        s.some_groups(n, |s| {
+            s.position();
+            s.s();
+        });
+    } else if s.flag() {
         s.quiet();
         s.ns(2);
     }
 }
 
-/// Messages, then Last, an error with its block, a number that is no code, a code with a bit too many, or the end.
-pub fn stderr(s: &mut Stream) {
+fn messages(s: &mut Stream) {
     for _ in 0..s.dice.below(5) {
         message(s);
     }
+}
+
+/// Messages, then an error with its block.
+pub fn error(s: &mut Stream, block: Block) {
+    messages(s);
+    s.put(ERROR);
+    error_block(s, block);
+}
+
+/// Messages, then Last, an error with its block, a number that is no code, a code with a bit too many, or the end.
+pub fn stderr(s: &mut Stream) {
+    messages(s);
     match s.dice.below(8) {
         0..=2 => s.put(LAST),
         3..=5 => {
             s.put(ERROR);
-            error_block(s);
+            error_block(s, Block::Ported);
         }
         6 => s.put(LAST | 1 << 32),
         _ => {}

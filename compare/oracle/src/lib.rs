@@ -13,6 +13,7 @@ pub mod calls;
 mod conversation;
 mod damage;
 pub mod dice;
+mod error_blocks;
 pub mod generate;
 mod layouts;
 pub mod line;

@@ -89,6 +89,8 @@ pub enum Answer {
     Ok(Line),
     /// With the string that is no text, where that is why.
     No(Option<FromUtf8Error>),
+    /// Refused by this number, at this place.
+    Due(u64, usize),
     /// Outside the domain of the comparison.
     Out,
     /// A panic that the domain does not explain.
@@ -106,6 +108,8 @@ impl fmt::Display for Answer {
         match self {
             Answer::Ok(line) => line.fmt(f),
             Answer::No(_) => f.write_str("no"),
+            // the whole line that the probe has to write
+            Answer::Due(number, place) => write!(f, "no {number} {place} 0"),
             Answer::Out => f.write_str("out"),
             Answer::Panic => f.write_str("panic"),
         }

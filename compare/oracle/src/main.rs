@@ -1,5 +1,5 @@
-//! `oracle generate SEED COUNT` writes requests for the probe, and `oracle published SEED COUNT` the same in published mode; `oracle answer` reads requests and
-//! writes what nix-wire answers, a line for each.
+//! `oracle generate SEED COUNT` writes requests for the probe, and `oracle published SEED COUNT` the same in published mode and more for what it reads
+//! otherwise; `oracle answer` reads requests and writes what nix-wire answers, a line for each.
 //! crates/probe/README.md has the form of requests and lines.
 use oracle::request::Request;
 use oracle::{answer, generate, published};
@@ -10,7 +10,7 @@ fn generate(word: &str, seed: u64, count: usize) -> io::Result<()> {
     let mut requests = generate::requests(seed).take(count);
     match word {
         "generate" => requests.try_for_each(|q| q.write(&mut out)),
-        _ => requests.flat_map(published::forms).chain(generate::published(seed)).try_for_each(|q| q.write(&mut out)),
+        _ => requests.flat_map(published::forms).chain(generate::published(seed, count)).try_for_each(|q| q.write(&mut out)),
     }?;
     out.flush()
 }

@@ -1,4 +1,5 @@
 //! Published mode: a daemon reads the arguments of two operations otherwise than nix-wire does. In its way nix-wire reads others, so it is asked for those.
+//! Error blocks, which it reads otherwise too, are in `error_blocks`.
 use crate::conversation::with_operation;
 use crate::handshake::ProtocolVersion;
 use crate::line::Line;

@@ -1,4 +1,5 @@
-//! A stream that is put together piece by piece. It remembers where lengths and counts stand, and how many strings and payload bytes a reader keeps.
+//! A stream that is put together piece by piece. It remembers where lengths, counts and positions stand, and how many strings and payload bytes a reader
+//! keeps.
 use crate::dice::Dice;
 
 /// The first and last of each row of RFC 3629, section 4, and their neighbours: bytes of which random strings are often almost text.
@@ -46,13 +47,14 @@ pub struct Stream<'a> {
     pub bytes: Vec<u8>,
     pub lengths: Vec<usize>,
     pub counts: Vec<usize>,
+    pub positions: Vec<usize>,
     pub kept: usize,
     pub payload: usize,
 }
 
 impl Stream<'_> {
     pub fn new(dice: &mut Dice, is_tidy: bool) -> Stream<'_> {
-        Stream { dice, is_tidy, bytes: vec![], lengths: vec![], counts: vec![], kept: 0, payload: 0 }
+        Stream { dice, is_tidy, bytes: vec![], lengths: vec![], counts: vec![], positions: vec![], kept: 0, payload: 0 }
     }
 
     pub fn put(&mut self, x: u64) {
@@ -75,11 +77,24 @@ impl Stream<'_> {
         x != 0
     }
 
-    fn count(&mut self) -> usize {
-        let n = if self.dice.one_in(30) { self.dice.below(40) } else { self.dice.below(4) };
+    /// How many of something there are.
+    pub fn many(&mut self) -> usize {
+        if self.dice.one_in(30) {
+            self.dice.below(40)
+        } else {
+            self.dice.below(4)
+        }
+    }
+
+    fn count(&mut self, n: usize) {
         self.counts.push(self.bytes.len());
         self.put(n as u64);
-        n
+    }
+
+    /// The position of an error or of a trace.
+    pub fn position(&mut self) {
+        self.positions.push(self.bytes.len());
+        self.put(0);
     }
 
     /// A string that no reader keeps.
@@ -103,11 +118,11 @@ impl Stream<'_> {
     }
 
     pub fn set(&mut self) {
-        (0..self.count()).for_each(|_| self.s());
+        self.groups(Stream::s);
     }
 
     pub fn quiet_set(&mut self) {
-        (0..self.count()).for_each(|_| self.quiet());
+        self.groups(Stream::quiet);
     }
 
     pub fn pairs(&mut self) {
@@ -126,7 +141,13 @@ impl Stream<'_> {
 
     /// A count, and so many of what is put.
     pub fn groups(&mut self, put: impl Fn(&mut Self)) {
-        (0..self.count()).for_each(|_| put(self));
+        let n = self.many();
+        self.some_groups(n, put);
+    }
+
+    pub fn some_groups(&mut self, n: usize, put: impl Fn(&mut Self)) {
+        self.count(n);
+        (0..n).for_each(|_| put(self));
     }
 
     pub fn framed(&mut self) {

@@ -1,8 +1,8 @@
 //! Requests that every run begins with: each operation at each version, each pair of versions in a handshake, each string of a layout made bad text, lengths
-//! around the limits, strings at the edges of text.
-use crate::damage::LIMIT;
+//! around the limits, strings at the edges of text. Then those that are asked in both modes for error blocks.
+use crate::damage::{change_number, LIMIT, NO_POSITIONS};
 use crate::dice::Dice;
-use crate::layouts::{self, Version};
+use crate::layouts::{self, Block, Version};
 use crate::request::Request;
 use crate::stream::{Stream, EDGES};
 
@@ -172,11 +172,64 @@ pub fn requests(dice: &mut Dice) -> Vec<Request> {
     all
 }
 
+/// Messages and an error, with slots for what that block keeps.
+struct Erred {
+    request: Request,
+    lengths: Vec<usize>,
+    positions: Vec<usize>,
+}
+
+fn erred(mut s: Stream, block: Block, (major, minor): Version) -> Erred {
+    layouts::error(&mut s, block);
+    let slots = s.kept as u64;
+    Erred { request: Request { call: 6, major, minor, slots, a: s.bytes, ..Request::default() }, lengths: s.lengths, positions: s.positions }
+}
+
+const BLOCKS: [Block; 6] = [Block::Ported, Block::Traced(0), Block::Traced(1), Block::Traced(2), Block::Traced(5), Block::Short];
+
+// The version before traces, and the first with them.
+const GATE: [Version; 2] = [(1, 25), (1, 26)];
+
+/// Versions on both sides of the gate, and some with bits that do not count.
+pub fn error_versions() -> Vec<Version> {
+    let others = [(0, 0), (0, 26), (1, 0), (1, 8), (1, 39), (1, 255), (2, 25), (256, 0), (65535, 0), (65537, 281), (65537, 282), (65536, 282)];
+    layouts::versions().into_iter().chain(others).collect()
+}
+
+fn with_position(q: &Request, at: usize, x: u64) -> Request {
+    let mut q = q.clone();
+    change_number(&mut q.a, at, x);
+    q
+}
+
+/// Each block at each version: whole, each string made bad text, each position another number, too few slots. Around the gate also cut at every byte.
+pub fn errors(dice: &mut Dice) -> Vec<Request> {
+    let mut all = Vec::new();
+    for v in error_versions() {
+        for block in BLOCKS {
+            let Erred { request: q, lengths, positions } = erred(Stream::new(dice, true), block, v);
+            for at in positions {
+                all.push(with_position(&q, at, NO_POSITIONS[all.len() % NO_POSITIONS.len()]));
+            }
+            all.extend((0..q.slots).map(|slots| Request { slots, ..q.clone() }));
+            all.push(q.clone());
+            all.extend(each_bad(q, &lengths, false));
+        }
+    }
+    for v in GATE {
+        for block in BLOCKS {
+            let q = erred(Stream::new(dice, true), block, v).request;
+            all.extend((0..q.a.len()).map(|n| Request { a: q.a[..n].to_vec(), ..q.clone() }));
+        }
+    }
+    all
+}
+
 // How many streams of one field there are for each call.
 const FIELDS: usize = 200;
 
-/// Streams to be passed: of each operation at each version, of each pair of versions, and of one field. Half of them are untidy, and may be refused by a call
-/// that looks at text.
+/// Streams to be passed: of each operation at each version, of each pair of versions, of one field, and of each error block at each version. Half of them are
+/// untidy, and may be refused by a call that looks at text.
 pub fn whole(dice: &mut Dice) -> Vec<Request> {
     let mut all = handshakes(dice);
     for call in 9..=17 {
@@ -186,6 +239,11 @@ pub fn whole(dice: &mut Dice) -> Vec<Request> {
     }
     for is_tidy in [true, false, true, false] {
         all.extend(operations(dice, is_tidy));
+    }
+    for is_tidy in [true, false] {
+        for v in layouts::versions() {
+            all.extend(BLOCKS.map(|block| erred(Stream::new(dice, is_tidy), block, v).request));
+        }
     }
     all
 }

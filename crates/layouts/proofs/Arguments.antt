@@ -10,7 +10,7 @@ use native.Mathlib.Omega.{arith}
 use Rattle.layouts.specs.declared.Mode.{Mode}
 use Rattle.layouts.specs.declared.Mode.the-variants.{Ported, Published}
 use Rattle.layouts.specs.Primitive.{pick, Version, version, atLeast, ok, refused}
-use Rattle.layouts.specs.Shape.{dropped, Role, passed, kept, What, num, str, set, pairs, framed, maybe, typed, Gated, always, from, below, between, once, Tree, stop, strings, units, ifTrue, byType, field, there, what, gated, fields, group, groups, layout}
+use Rattle.layouts.specs.Shape.{dropped, Role, passed, kept, What, num, str, set, pairs, framed, maybe, typed, position, Gated, always, from, below, between, once, Tree, stop, strings, units, ifTrue, byType, field, there, what, gated, fields, group, groups, layout}
 use Rattle.layouts.specs.Pieces.{run}
 use Rattle.layouts.specs.Record.{blank}
 use Rattle.layouts.specs.Judge.{Ended, judgeOf}
@@ -19,7 +19,7 @@ use Rattle.layouts.specs.Operations.{Skip, nothing, empty, first, paths,
 use Rattle.layouts.specs.Calls.{Context, chosen, argumentsTree, skippedTree, byRow, argumentsKinds, skippedKinds, Answer, answered, readOpArgs, skipOpArgs, skipFramed}
 use Rattle.layouts.specs.Demands.{RefusedBy, framedArguments, Alike}
 use Rattle.layouts.proofs.Calls.{answer-of, refused-of, refused-onward}
-use Rattle.layouts.proofs.Lowers.{not-both, Lowers, asks, passes, keeps, leaves, stops, Ends, Agree, both-refused, both, no-later, lowers-agree, lowers-kept}
+use Rattle.layouts.proofs.Lowers.{not-both, Lowers, asks, tests, passes, keeps, leaves, stops, Ends, Agree, both-refused, both, no-later, lowers-agree, lowers-kept}
 
 -- ---- shapes
 module _ {b : Bool} {j : ℕ} where
@@ -55,6 +55,7 @@ isF (pairs r i) = false
 isF framed = true
 isF maybe = false
 isF typed = false
+isF position = false
 
 abbrev none : List Gated → Bool
 none [] = true
@@ -106,6 +107,7 @@ module _ (v : Version) where
       field-lower framed f h = frames-lower c is f
       field-lower maybe f h = put-lower _ _ (asks (λ n. maybe-lower n (rest is) (rest (loweredAll q is)) (h f))) (h f)
       field-lower typed f h = put-lower _ _ (asks (λ n. typed-lower n (rest is) (rest (loweredAll q is)) (h f))) (h f)
+      field-lower position f h = put-lower _ _ (tests (h f)) (h f)
 
     fields-lower : (is : List Gated) → lastF is ≡ true → Lowers (hasF v is) j (rest is tt) (rest (loweredAll q is) tt)
     unfolding fields

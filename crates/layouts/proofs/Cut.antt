@@ -15,7 +15,7 @@ use Rattle.layouts.specs.declared.Record.{Record}
 use Rattle.layouts.specs.declared.Refusal.{Refusal}
 use Rattle.layouts.specs.Refusal.{refusal, refusedBy}
 use Rattle.layouts.specs.Primitive.{pick, littleAt, numberAt, cutShort, badText, Version, Result, ok, refused, onward}
-use Rattle.layouts.specs.Shape.{Target, Role, What, num, str, set, pairs, framed, maybe, typed, Tree, ask, say, frames, layout, asNumber, asCount, passed, kept}
+use Rattle.layouts.specs.Shape.{Target, Role, What, num, str, set, pairs, framed, maybe, typed, position, Tree, ask, say, frames, layout, asNumber, asCount, passed, kept}
 use Rattle.layouts.specs.Pieces.{Pieces, fault, afterNum, afterText, afterChunk, chunks, run, skipOf, totalOf}
 use Rattle.layouts.specs.Record.{blank, noted, withNumber, entered, withPayload}
 use Rattle.layouts.specs.Judge.{notText, textEnd, textTaken, halfTaken, chunkTaken, Ended, judgeOf, payloadOf, lentAfter}
@@ -109,14 +109,14 @@ module _ (s s' : List ℕ) (hi : ℕ) (same : SameTo hi s s') where
 
 -- ---- a tree from a place on
 module _ (s s' : List ℕ) (e : ℕ) (same : SameTo e s s') where
-  same-length : e ≤ length s → e ≤ length s'
+  pub same-length : e ≤ length s → e ≤ length s'
   same-length h =
       let l : length (take e s) ≡ e = length-take-le e s h in
       let m : length (take e s') ≡ length (take e s) = ap length same in
       let k : length (take e s') ≤ length s' = simp length-take (omega arith) in
       omega arith
 
-  same-bytes : (x : ℕ) → x < e → getD s' x 0 ≡ getD s x 0
+  pub same-bytes : (x : ℕ) → x < e → getD s' x 0 ≡ getD s x 0
   same-bytes x h = sym (getD-take e s' x 0 h) ∙ ap (λ (u : List ℕ). getD u x 0) same ∙ getD-take e s x 0 h
 
 module _ (t : Tree) (s s' : List ℕ) (at e : ℕ) (h : at ≤ length s) (q : skipOf (run t s at) ≡ ok e) where
@@ -299,6 +299,7 @@ module _ (at : ℕ) where
   starts framed = by-frames
   starts maybe = by-ask
   starts typed = by-ask
+  starts position = by-ask
 
   read-field-whole : (w : What) (slots room : ℕ) → WholeOnly (λ s. readField w s at slots room) (λ x. x .ends) 0 (seen (field w) at)
   read-field-whole w slots room = read-whole (starts w) slots room blank

@@ -172,7 +172,7 @@ module _ (s : List ℕ) (bytes : Bytes s) where
       sound-num i at e k (λ n. run (k n) s (at + 8)) (num-view (length s) (numberAt s at) at) q (λ p. sound (k (numberAt s at)) (at + 8) e p)
   sound (say r k) at e q = sound-text r at e k (λ a. run (k tt) s a) (text-view (length s) (numberAt s at) at) q (λ a p. sound (k tt) a e p)
   sound (frames k) at e q = sound-chunks (suc (length s)) at e k (λ a. run (k tt) s a) q (λ a p. sound (k tt) a e p)
-  sound (fail which place) at e q = let z : _≡_ {A = ℕ} 0 1 = cc in absurd (omega arith)
+  sound (fail which back) at e q = let z : _≡_ {A = ℕ} 0 1 = cc in absurd (omega arith)
   sound stop at e q =
       let z : at ≡ e = cc in
       record { these = []; rest = drop at s; splits = refl; says = says-end at; ends = omega arith }

@@ -19,7 +19,7 @@ use Rattle.layouts.specs.Shape.{Role, kept, Tree, say, frames}
 use Rattle.layouts.specs.Pieces.{run}
 use Rattle.layouts.specs.Record.{isKept, entered, withPayload}
 use Rattle.layouts.specs.Judge.{isDecoded, notText, textEnd, textTaken, halfTaken, chunkTaken, Ended, judgeOf}
-use Rattle.layouts.specs.Refusals.{Reads, reads-none, reads-number, reads-text, reads-chunk, reads-last, Needs, a-number, a-length, contents, padding, a-size, a-chunk, Measured, a-string, chunks, Fault, cut, too-long, bad-text, no-slot, no-room, unknown, Answers, Refuses}
+use Rattle.layouts.specs.Refusals.{Reads, reads-none, reads-number, reads-text, reads-chunk, reads-last, Needs, a-number, a-length, contents, padding, a-size, a-chunk, Measured, a-string, chunks, Fault, cut, too-long, bad-text, no-slot, no-room, fails, Answers, Refuses}
 use Rattle.layouts.proofs.Little.{length-number}
 use Rattle.layouts.proofs.Steps.{ask-short, ask-value, say-short, say-long, say-cut, say-half, say-whole, frames-short, frames-last, frames-long, frames-cut, frames-part}
 use Rattle.layouts.proofs.Exact.{past, head-number, head-size, head-past}
@@ -213,7 +213,7 @@ module _ (s : List ℕ) (slots room : ℕ) where
       ap (judgeOf s slots room r) (frames-part s at n (head-number s at n v e (omega arith)) k (omega arith) o l)
       ∙ ap (λ (o : Result Record). onward o (λ r'. judgeOf s slots room r' (run (frames k) s (at + 8 + n)))) (chunk-full room r (at + 8) n h)
       ∙ ap (λ (x : ℕ). refused noPayloadRoom x 0) p
-  fault-refused (unknown which place at r u) e = refl
+  fault-refused (fails which back at r u) e = refl
 
   pub answers-ok : {t : Tree} {at ends : ℕ} {r found : Record} → Answers slots room t at r (drop at s) found ends
       → judged t at r ≡ ok (record { found = found; ends = ends })

@@ -126,5 +126,5 @@ module _ (s s' : List ℕ) (e : ℕ) (agree : (x : ℕ) → x < length s' → x 
   follow-run (frames k) at h l q =
       follow-chunks (suc (length s)) (suc (length s')) at (λ at'. run (k tt) s at') (λ at'. run (k tt) s' at') (λ at' g. run-placed (k tt) s at' g) l (omega arith) q
       (λ at' g m t. follow-run (k tt) at' g m t)
-  follow-run (fail which place) at h l q = absurd (never-both q)
+  follow-run (fail which back) at h l q = absurd (never-both q)
   follow-run stop at h l q = let z : at ≡ e = cc in record { whole = λ g. refl; short = λ g. absurd (omega arith) }

@@ -20,6 +20,7 @@ pub mod Success
 pub mod Stderr
 pub mod Talk
 pub mod CutTalk
+pub mod CutError
 pub mod Faults
 pub mod Outcomes
 pub mod Turns

@@ -1,5 +1,5 @@
 -- Skipping a layout is reading it with every string lower-case: no slot is needed, no text is looked at, and room for what remains of the stream is enough.
-use Prim.Native.Nat.{ℕ, zero, suc, _+_, _≤_}
+use Prim.Native.Nat.{_-_, ℕ, zero, suc, _+_, _≤_}
 use mathlib.Core.List.{List}
 use lib.ListN.{length}
 use borrow.Author.Tests.{le-leb}
@@ -73,5 +73,5 @@ module _ (s : List ℕ) (slots room : ℕ) where
       (λ a l. lower-alike (k tt) a (entered r passed) (omega arith))
   lower-alike (frames k) at r q =
       lower-chunks (suc (length s)) at r (λ a. run (k tt) s a) (λ a. run (lowerCase (k tt)) s a) q (λ a r p. lower-alike (k tt) a r p)
-  lower-alike (fail which place) at r q = both-refuse which place
+  lower-alike (fail which back) at r q = both-refuse which (at - back)
   lower-alike stop at r q = both-end r at

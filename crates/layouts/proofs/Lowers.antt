@@ -1,5 +1,5 @@
 -- Two trees of the same nodes, where one passes over what the other reads and ends before the F that ends the other: what comes of judging both.
-use Prim.Native.Nat.{ℕ, suc, _+_, _-_, _≤_}
+use Prim.Native.Nat.{ℕ, zero, suc, _+_, _-_, _≤_}
 use mathlib.Core.Path.{_≡_, refl, sym, ap}
 use mathlib.Core.List.{List}
 use mathlib.Core.Bool.{Bool, true, false}
@@ -7,7 +7,7 @@ use lib.ListN.{length}
 use native.Mathlib.Omega.{arith}
 use Rattle.layouts.specs.declared.Record.{Record}
 use Rattle.layouts.specs.Primitive.{pick, numberAt, padOf, cutShort, badText, Result, ok, refused, onward}
-use Rattle.layouts.specs.Shape.{Target, Role, passed, kept, Tree, ask, say, frames, stop, layout}
+use Rattle.layouts.specs.Shape.{Target, dropped, Role, passed, kept, Tree, ask, say, frames, stop, ifZero, layout}
 use Rattle.layouts.specs.Pieces.{Pieces, Num, Text, afterNum, afterText, run, skipOf, totalOf}
 use Rattle.layouts.specs.Record.{blank, withNumber, noted, isKept, entered}
 use Rattle.layouts.specs.Judge.{notText, textEnd, halfTaken, Ended, judgeOf}
@@ -24,6 +24,7 @@ not-both e f = let z : _≡_ {A = ℕ} 0 1 = cc in omega arith
 -- u is t with its strings passed over but for at most j that are kept, and without the F that ends t, if it has one
 pub data Lowers : (hasF : Bool) → (j : ℕ) → (t u : Tree) → Type 0 where
   asks : {b : Bool} {j : ℕ} {i i' : Target} {k k' : ℕ → Tree} → ((n : ℕ) → Lowers b j (k n) (k' n)) → Lowers b j (ask i k) (ask i' k')
+  tests : {b : Bool} {j : ℕ} {k k' : Unit {0} → Tree} → Lowers b j (k tt) (k' tt) → Lowers b j (ask dropped (λ n. ifZero n k)) (ask dropped (λ n. ifZero n k'))
   passes : {b : Bool} {j : ℕ} {m : Role} {k k' : Unit {0} → Tree} → Lowers b j (k tt) (k' tt) → Lowers b j (say m k) (say passed k')
   keeps : {b : Bool} {j : ℕ} {k k' : Unit {0} → Tree} → Lowers b j (k tt) (k' tt) → Lowers b (suc j) (say kept k) (say kept k')
   leaves : {j : ℕ} → Lowers true j (frames (λ u. stop)) stop
@@ -95,11 +96,18 @@ module _ (s : List ℕ) (slots room : ℕ) {b : Bool} where
 
   module _ (r r' : Record) where
     num-agree : {n at : ℕ} {w : Num} (i i' : Target) (p q : ℕ → Pieces) → NumView (length s) n at w
-        → (at + 8 ≤ length s → Agree b s (at + 8) (judgeOf s slots room (noted r i n) (p n)) (judgeOf s 1 0 (noted r' i' n) (q n)))
+        → (at + 8 ≤ length s → Agree b s at (judgeOf s slots room (noted r i n) (p n)) (judgeOf s 1 0 (noted r' i' n) (q n)))
         → Agree b s at (judgeOf s slots room r (afterNum w i at p)) (judgeOf s 1 0 r' (afterNum w i' at q))
     unfolding afterNum judgeOf
-    num-agree {at} i i' p q (is-value h) g = agree-from at (omega arith) (g h)
+    num-agree i i' p q (is-value h) g = g h
     num-agree {at} i i' p q (is-short h) g = both-refused at at (omega arith) (omega arith)
+
+    -- a position: both refuse it at the number
+    zero-agree : (n at : ℕ) (k k' : Unit {0} → Tree) → Agree b s (at + 8) (judgeOf s slots room r (run (k tt) s (at + 8))) (judgeOf s 1 0 r' (run (k' tt) s (at + 8)))
+        → Agree b s at (judgeOf s slots room r (run (ifZero n k) s (at + 8))) (judgeOf s 1 0 r' (run (ifZero n k') s (at + 8)))
+    unfolding run judgeOf
+    zero-agree zero at k k' g = agree-from at (omega arith) g
+    zero-agree (suc n) at k k' g = both-refused (at + 8 - 8) (at + 8 - 8) (omega arith) (omega arith)
 
     text-agree : {n at : ℕ} {w : Text} (m m' : Role) (p q : ℕ → Pieces) → TextView (length s) n at w
         → ((start len : ℕ) → notText s m' start len ≡ true → notText s m start len ≡ true) → r' .entries + pick (isKept m') 1 0 ≤ 1
@@ -135,7 +143,13 @@ module _ (s : List ℕ) (slots room : ℕ) where
   unfolding run judgeOf notText
   lowers-agree (asks {i} {i'} {k} {k'} f) at h r r' l =
       num-agree s slots room r r' i i' (λ n. run (k n) s (at + 8)) (λ n. run (k' n) s (at + 8)) (num-view (length s) (numberAt s at) at)
-      (λ g. let a = noted-room r' i' (numberAt s at) in lowers-agree (f (numberAt s at)) (at + 8) g (noted r i _) (noted r' i' (numberAt s at)) (omega arith))
+      (λ g. let a = noted-room r' i' (numberAt s at) in
+      agree-from at (omega arith) (lowers-agree (f (numberAt s at)) (at + 8) g (noted r i _) (noted r' i' (numberAt s at)) (omega arith)))
+  lowers-agree (tests {k} {k'} f) at h r r' l =
+      let n = numberAt s at in
+      num-agree s slots room r r' dropped dropped (λ n. run (ifZero n k) s (at + 8)) (λ n. run (ifZero n k') s (at + 8)) (num-view (length s) n at)
+      (λ g. let a = noted-room r' dropped n in
+      zero-agree s slots room (noted r dropped n) (noted r' dropped n) n at k k' (lowers-agree f (at + 8) g (noted r dropped n) (noted r' dropped n) (omega arith)))
   lowers-agree (passes {m} {k} {k'} f) at h r r' l =
       let a = entered-room r' passed in
       text-agree s slots room r r' m passed (λ n. run (k tt) s n) (λ n. run (k' tt) s n) (text-view (length s) (numberAt s at) at)
@@ -163,9 +177,15 @@ text-kept m p (no-contents h x c) l = omega arith
 text-kept m p (no-padding h x c) l = omega arith
 text-kept m p (is-whole h x) l = l _
 
+zero-kept : {j : ℕ} (n : ℕ) (k : Unit {0} → Tree) (s : List ℕ) (at : ℕ) → keptOf (run (k tt) s at) ≤ j → keptOf (run (ifZero n k) s at) ≤ j
+unfolding run keptOf
+zero-kept zero k s at l = l
+zero-kept (suc n) k s at l = omega arith
+
 pub lowers-kept : {b : Bool} {j : ℕ} {t u : Tree} → Lowers b j t u → (s : List ℕ) (at : ℕ) → keptOf (run u s at) ≤ j
 unfolding run keptOf
 lowers-kept (asks {i'} {k'} f) s at = num-kept i' (λ n. run (k' n) s (at + 8)) (num-view (length s) (numberAt s at) at) (lowers-kept (f (numberAt s at)) s (at + 8))
+lowers-kept (tests {k'} f) s at = num-kept dropped (λ n. run (ifZero n k') s (at + 8)) (num-view (length s) (numberAt s at) at) (zero-kept (numberAt s at) k' s (at + 8) (lowers-kept f s (at + 8)))
 lowers-kept (passes {k'} f) s at = text-kept passed (λ n. run (k' tt) s n) (text-view (length s) (numberAt s at) at) (λ n. let z = lowers-kept f s n in omega arith)
 lowers-kept (keeps {k'} f) s at = text-kept kept (λ n. run (k' tt) s n) (text-view (length s) (numberAt s at) at) (λ n. let z = lowers-kept f s n in omega arith)
 lowers-kept leaves s at = omega arith

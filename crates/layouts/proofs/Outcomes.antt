@@ -15,7 +15,7 @@ use Rattle.layouts.specs.Primitive.{numberAt, numberBytes, limit, padOf,
 use Rattle.layouts.specs.Shape.{Target, Role, passed, checked, kept, Tree, ask, say, frames, fail, stop}
 use Rattle.layouts.specs.Record.{noted, isKept, entered, withPayload}
 use Rattle.layouts.specs.Judge.{isDecoded}
-use Rattle.layouts.specs.Refusals.{Reads, reads-none, reads-number, reads-text, reads-chunk, reads-last, a-number, a-length, contents, padding, a-size, a-chunk, a-string, chunks, Fault, cut, too-long, bad-text, no-slot, no-room, unknown, Answers, Refuses}
+use Rattle.layouts.specs.Refusals.{Reads, reads-none, reads-number, reads-text, reads-chunk, reads-last, a-number, a-length, contents, padding, a-size, a-chunk, a-string, chunks, Fault, cut, too-long, bad-text, no-slot, no-room, fails, Answers, Refuses}
 use Rattle.layouts.specs.Demands.{Bytes}
 use Rattle.layouts.proofs.Little.{number-small, bytes-of-number, length-number}
 use Rattle.layouts.proofs.Theorems.{never-true}
@@ -200,6 +200,6 @@ module _ (slots room : ℕ) where
   outcome (ask i k) at r u h = number-outcome i k at r u h (λ n v b. outcome (k n) (at + 8) (noted r i n) v b)
   outcome (say m k) at r u h = string-outcome m k at r (λ at r v b. outcome (k tt) at r v b) u h
   outcome (frames k) at r u h = frames-outcome k (λ at r v b. outcome (k tt) at r v b) (suc (length u)) at r u h (omega arith)
-  outcome (fail which place) at r u h = faulty (fail which place) at r u (unknown which place at r u)
+  outcome (fail which back) at r u h = faulty (fail which back) at r u (fails which back at r u)
   outcome stop at r u h =
       answers r at (record { these = []; others = u; splits = refl; reads = reads-none stop at r })

@@ -1,6 +1,6 @@
--- The pieces of a stream stand in order, each within the stream, and so does the fault that ends them unless a tree itself fails. So a number at
+-- The pieces of a stream stand in order, each within the stream, and so does the fault that ends them, where a tree fails of itself by 15 alone. So a number at
 -- the place where pieces begin is hard, and so is all that stands after their end.
-use Prim.Native.Nat.{ℕ, zero, suc, _+_, _≤_, _<_}
+use Prim.Native.Nat.{ℕ, zero, suc, _+_, _-_, _≤_, _<_}
 use mathlib.Core.Path.{_≡_, refl, sym}
 use mathlib.Core.List.{List}
 use mathlib.Core.Bool.{Bool, true, false, _||_}
@@ -8,7 +8,7 @@ use lib.ListN.{length}
 use lib.Dec.{ltb, leb}
 use borrow.Author.Tests.{lt-leb, le-ltb}
 use native.Mathlib.Omega.{arith}
-use Rattle.layouts.specs.Primitive.{pick, numberAt, padOf, ok, refused}
+use Rattle.layouts.specs.Primitive.{pick, numberAt, padOf, nonzeroPosition, ok, refused}
 use Rattle.layouts.specs.Shape.{Target, Role, Tree, ask, say, frames, fail, stop}
 use Rattle.layouts.specs.Pieces.{Pieces, number, text, half, chunk, end, fault, Num, Text, Chunk, afterNum, afterText, afterChunk, chunks, run, skipOf}
 use Rattle.layouts.specs.Soft.{soft, within}
@@ -17,9 +17,9 @@ use Rattle.layouts.proofs.Views.{NumView, is-value, is-short, TextView,
 pub never-both : {A : Type 0} {a : A} {which place stream : ℕ} → refused which place stream ≡ ok a → ⊥
 never-both q = let z : _≡_ {A = ℕ} 0 1 = cc in omega arith
 
--- from lo on and up to hi; where G holds, the fault too is at lo or after
+-- from lo on and up to hi; where G holds, the fault too is at lo or after. A fault may stand at the number before it
 pub data Placed (G : Type 0) (hi : ℕ) : (lo : ℕ) → Pieces → Type 0 where
-  on-number : {n : ℕ} {i : Target} {p : Pieces} (lo place : ℕ) → lo ≤ place → place + 8 ≤ hi → Placed G hi (place + 8) p → Placed G hi lo (number i place n p)
+  on-number : {n : ℕ} {i : Target} {p : Pieces} (lo place : ℕ) → lo ≤ place → place ≤ hi → Placed G hi place p → Placed G hi lo (number i place n p)
   on-text : {m : Role} {p : Pieces} (lo start len : ℕ) → lo + 8 ≤ start → start + len + padOf len ≤ hi → Placed G hi (start + len + padOf len) p
       → Placed G hi lo (text m start len p)
   on-half : {m : Role} (lo start len : ℕ) → lo + 8 ≤ start → start + len ≤ hi → Placed G hi lo (half m start len)
@@ -27,13 +27,24 @@ pub data Placed (G : Type 0) (hi : ℕ) : (lo : ℕ) → Pieces → Type 0 where
   on-end : (lo place : ℕ) → lo ≤ place → place ≤ hi → Placed G hi lo (end place)
   on-fault : {which : ℕ} (lo place : ℕ) → (G → lo ≤ place) → Placed G hi lo (fault which place)
 
--- a tree that never fails of itself
-abbrev pub NoFail : Tree → Type 0
-NoFail (ask i k) = (n : ℕ) → NoFail (k n)
-NoFail (say m k) = NoFail (k tt)
-NoFail (frames k) = NoFail (k tt)
-NoFail (fail which place) = ⊥
-NoFail stop = Unit {0}
+-- a tree that fails of itself by 15 alone, at a number that it has just asked for
+abbrev pub FailsAt : (asked : Bool) → (which back : ℕ) → Type 0
+FailsAt true which back = (which ≡ nonzeroPosition) × (back ≡ 8)
+FailsAt false which back = ⊥
+
+abbrev pub Fails : (asked : Bool) → Tree → Type 0
+Fails a (ask i k) = (n : ℕ) → Fails true (k n)
+Fails a (say m k) = Fails false (k tt)
+Fails a (frames k) = Fails false (k tt)
+Fails a (fail which back) = FailsAt a which back
+Fails a stop = Unit {0}
+
+abbrev pub FailsBy15 : Tree → Type 0
+FailsBy15 t = Fails false t
+
+abbrev number-before : (asked : Bool) → ℕ
+number-before true = 8
+number-before false = 0
 
 module _ {G : Type 0} {hi : ℕ} where
   pub placed-from : {lo : ℕ} {p : Pieces} (lo' : ℕ) → lo' ≤ lo → Placed G hi lo p → Placed G hi lo' p
@@ -45,9 +56,9 @@ module _ {G : Type 0} {hi : ℕ} where
   placed-from lo' g (on-fault lo place a) = on-fault lo' place (λ x. let q = a x in omega arith)
 
 module _ {G : Type 0} (size n at : ℕ) where
-  num-placed : (i : Target) {m : Num} (k : ℕ → Pieces) → NumView size n at m → (at + 8 ≤ size → Placed G size (at + 8) (k n)) → Placed G size at (afterNum m i at k)
+  num-placed : (i : Target) {m : Num} (k : ℕ → Pieces) → NumView size n at m → (at + 8 ≤ size → Placed G size at (k n)) → Placed G size at (afterNum m i at k)
   unfolding afterNum
-  num-placed i k (is-value h) g = on-number at at (omega arith) h (g h)
+  num-placed i k (is-value h) g = on-number at at (omega arith) (omega arith) (g h)
   num-placed i k (is-short h) g = on-fault at at (λ x. omega arith)
 
   text-placed : (r : Role) {m : Text} (k : ℕ → Pieces) → TextView size n at m → ((at' : ℕ) → at' ≤ size → Placed G size at' (k at')) → Placed G size at (afterText m r k)
@@ -74,19 +85,28 @@ module _ {G : Type 0} (s : List ℕ) where
   chunks-placed (suc f) at k g =
       chunk-placed (length s) (numberAt s at) at (λ at'. chunks f s at' k) k (chunk-view (length s) (numberAt s at) at) (λ at' h. chunks-placed f at' k g) g
 
-  placed-run : (t : Tree) (at : ℕ) → (G → NoFail t) → at ≤ length s → Placed G (length s) at (run t s at)
-  unfolding run
-  placed-run (ask i k) at f h =
-      num-placed (length s) (numberAt s at) at i (λ n. run (k n) s (at + 8)) (num-view (length s) (numberAt s at) at)
-      (λ g. placed-run (k (numberAt s at)) (at + 8) (λ x. f x (numberAt s at)) g)
-  placed-run (say m k) at f h =
-      text-placed (length s) (numberAt s at) at m (λ at'. run (k tt) s at') (text-view (length s) (numberAt s at) at) (λ at' g. placed-run (k tt) at' f g)
-  placed-run (frames k) at f h = chunks-placed (suc (length s)) at (λ at'. run (k tt) s at') (λ at' g. placed-run (k tt) at' f g)
-  placed-run (fail which place) at f h = on-fault at place (λ x. absurd (f x))
-  placed-run stop at f h = on-end at at (omega arith) h
+  failed : (asked : Bool) (which back lo at : ℕ) → (G → FailsAt asked which back) → lo + number-before asked ≡ at → Placed G (length s) lo (fault which (at - back))
+  failed true which back lo at f e = on-fault lo (at - back) (λ x. let z = f x .1 in omega arith)
+  failed false which back lo at f e = on-fault lo (at - back) (λ x. absurd (f x))
 
-pub run-placed : (t : Tree) (s : List ℕ) (at : ℕ) → at ≤ length s → Placed (NoFail t) (length s) at (run t s at)
-run-placed t s at h = placed-run s t at (λ x. x) h
+  -- from lo on, where the number may stand that was asked for
+  placed-run : (asked : Bool) (t : Tree) (lo at : ℕ) → (G → Fails asked t) → lo + number-before asked ≡ at → at ≤ length s → Placed G (length s) lo (run t s at)
+  unfolding run
+  placed-run a (ask i k) lo at f e h =
+      placed-from lo (omega arith)
+      (num-placed (length s) (numberAt s at) at i (λ n. run (k n) s (at + 8)) (num-view (length s) (numberAt s at) at)
+      (λ g. placed-run true (k (numberAt s at)) at (at + 8) (λ x. f x (numberAt s at)) refl g))
+  placed-run a (say m k) lo at f e h =
+      placed-from lo (omega arith)
+      (text-placed (length s) (numberAt s at) at m (λ at'. run (k tt) s at') (text-view (length s) (numberAt s at) at)
+      (λ at' g. placed-run false (k tt) at' at' f (omega arith) g))
+  placed-run a (frames k) lo at f e h =
+      placed-from lo (omega arith) (chunks-placed (suc (length s)) at (λ at'. run (k tt) s at') (λ at' g. placed-run false (k tt) at' at' f (omega arith) g))
+  placed-run a (fail which back) lo at f e h = failed a which back lo at f e
+  placed-run a stop lo at f e h = on-end lo at (omega arith) h
+
+pub run-placed : (t : Tree) (s : List ℕ) (at : ℕ) → at ≤ length s → Placed (FailsBy15 t) (length s) at (run t s at)
+run-placed t s at h = placed-run s false t at at (λ x. x) (omega arith) h
 
 -- what that says of soft bytes
 past-by : (b c : Bool) → c ≡ false → pick b c false ≡ false

@@ -123,7 +123,7 @@ module _ (s s' : List ℕ) (same : length s' ≡ length s) where
       ap (λ f. chunks (suc f) s' at (λ at'. run (k tt) s' at')) same
       ∙ same-chunks (suc (length s)) at (λ at'. run (k tt) s at') (λ at'. run (k tt) s' at') (λ at' g. run-placed (k tt) s at' g) a
       (λ at' g b. same-run (k tt) at' g b)
-  same-run (fail which place) at h a = refl
+  same-run (fail which back) at h a = refl
   same-run stop at h a = refl
 
   -- past the end every stream reads 0

@@ -14,11 +14,11 @@ use Rattle.layouts.specs.Shape.{Group, Tree, layout}
 use Rattle.layouts.specs.Pieces.{Pieces, end, run, skipOf, totalOf}
 use Rattle.layouts.specs.Record.{recordOf}
 use Rattle.layouts.specs.Judge.{Ended, judgeOf}
-use Rattle.layouts.specs.Stderr.{Error, Message, noCode, terminal, goes, messageOf, Stopped, afterPeek, stderrFrom, stderrLoop, stoppedRecord, stderrAnswer, ifError, errorBlock, errorPieces, readStderrWithError}
+use Rattle.layouts.specs.Stderr.{Error, Message, noCode, terminal, goes, messageOf, Stopped, afterPeek, stderrFrom, stderrLoop, stoppedRecord, stderrAnswer, ifError, portedError, tracedError, shortError, errorGroups, errorBlock, errorPieces, readStderrWithError}
 use Rattle.layouts.specs.Soft.{soft, keptOf, unlessBad, softAfter, softMessage, softFrom, SoftenedStderr, softError, SoftenedError}
 use Rattle.layouts.proofs.Little.{number-same}
-use Rattle.layouts.proofs.Placed.{never-both, Placed, on-end, NoFail, run-placed, ends, soft-low, soft-high, neither}
-use Rattle.layouts.proofs.Trees.{groups-no-payload}
+use Rattle.layouts.proofs.Placed.{never-both, Placed, on-end, FailsBy15, run-placed, ends, soft-low, soft-high, neither}
+use Rattle.layouts.proofs.Trees.{GroupsFit, groups-no-payload}
 use Rattle.layouts.proofs.Judge.{judge-room}
 use Rattle.layouts.proofs.Calls.{unless-answered}
 use Rattle.layouts.proofs.Soft.{in-or-out, soft-run-at, same-drop}
@@ -77,7 +77,7 @@ module _ (s : List ℕ) where
       message-low at x (leb (at + 8) (length s)) (messageOf (numberAt s at)) (λ e. softFrom f s e x) refl l (λ e g h. from-low f e x (omega arith))
 
 -- a message whose fields are passed, and the loop goes on
-passed-on : {A B : Type 0} (o : Result A) (k : A → Result B) (x : B) → onward o k ≡ ok x → (a : A) × (o ≡ ok a) × (k a ≡ ok x)
+pub passed-on : {A B : Type 0} (o : Result A) (k : A → Result B) (x : B) → onward o k ≡ ok x → (a : A) × (o ≡ ok a) × (k a ≡ ok x)
 passed-on (ok a) k x q = (a, refl, q)
 passed-on (refused which place stream) k x q = absurd (never-both q)
 
@@ -98,7 +98,7 @@ module _ (s : List ℕ) (x : Stopped) where
       let w = ends (z .0) (run-placed (body s gs) s (at + 8) (leb-true (at + 8) (length s) h)) (z .1) in
       let y = f (z .0) (z .2) in (omega arith, λ g. y .1 (w .1))
 
-  stops-in : (f at m : ℕ) → stderrFrom f s at m ≡ ok x → StopsIn at
+  pub stops-in : (f at m : ℕ) → stderrFrom f s at m ≡ ok x → StopsIn at
   unfolding stderrFrom
   stops-in zero at m q = let z : at ≡ x .ends = cc in (omega arith, λ g. omega arith)
   stops-in (suc f) at m q =
@@ -190,52 +190,57 @@ module _ (s s' : List ℕ) (a : SoftenedStderr s s') where
   soft-rest-stderr x q = same-drop s s' (x .ends) (a .size) (λ y g l. a .hard y l (stops-high s x (suc (length s)) 0 0 y g q))
 
 -- ---- demand 3 for the loop with the error block
--- the pieces behind the loop, where it stops
-module _ (s : List ℕ) (x : Stopped) where
-  abbrev behind : (is : Bool) → Pieces
-  behind b = pick b (run errorBlock s (x .ends)) (end (x .ends))
+no-frames : (b c : Bool) → GroupsFit ⊥ (pick b portedError (pick c tracedError shortError))
+no-frames true c = search
+no-frames false true = search
+no-frames false false = search
 
-  behind-placed : (b : Bool) → x .ends ≤ length s → Placed (NoFail errorBlock) (length s) (x .ends) (behind b)
-  behind-placed true h = run-placed errorBlock s (x .ends) h
+-- the pieces behind the loop, where it stops
+module _ (k : ℕ) (s : List ℕ) (x : Stopped) where
+  abbrev behind : (is : Bool) → Pieces
+  behind b = pick b (run (errorBlock k) s (x .ends)) (end (x .ends))
+
+  behind-placed : (b : Bool) → x .ends ≤ length s → Placed (FailsBy15 (errorBlock k)) (length s) (x .ends) (behind b)
+  behind-placed true h = run-placed (errorBlock k) s (x .ends) h
   behind-placed false h = on-end (x .ends) (x .ends) (omega arith) h
 
   behind-payload : (b : Bool) → totalOf (behind b) ≡ 0
   unfolding errorBlock totalOf
-  behind-payload true = groups-no-payload (version 0 0) _ ((tt, (tt, (tt, (tt, tt)))), ((tt, (tt, (tt, tt))), tt)) s (x .ends)
+  behind-payload true = groups-no-payload (version 0 0) (errorGroups k) (no-frames (eqb k 0) (eqb k 1)) s (x .ends)
   behind-payload false = refl
 
   -- reading judges them
-  behind-judged : (b : Bool) (slots : ℕ) → ifError b x (λ u. judgeOf s slots 0 (stoppedRecord x) (run errorBlock s (x .ends)))
-      ≡ onward (judgeOf s slots 0 (stoppedRecord x) (behind b)) (λ e. stderrAnswer (e .ends) (e .found))
+  behind-judged : (b : Bool) (slots : ℕ) → ifError k b x (λ u. judgeOf s slots 0 (stoppedRecord x) (run (errorBlock k) s (x .ends)))
+      ≡ onward (judgeOf s slots 0 (stoppedRecord x) (behind b)) (λ e. stderrAnswer (pick b k 0) (e .ends) (e .found))
   unfolding judgeOf
   behind-judged true slots = refl
   behind-judged false slots = refl
 
-same-behind : (s s' : List ℕ) (x : Stopped) (b : Bool) → x .ends ≤ length s → length s' ≡ length s
-    → ((y : ℕ) → x .ends ≤ y → y < length s → soft (behind s x b) y ≡ false → getD s' y 0 ≡ getD s y 0) → behind s' x b ≡ behind s x b
-same-behind s s' x true h same f = soft-run-at errorBlock s s' (x .ends) h same (λ y g l c q. f y g l q)
-same-behind s s' x false h same f = refl
+same-behind : (k : ℕ) (s s' : List ℕ) (x : Stopped) (b : Bool) → x .ends ≤ length s → length s' ≡ length s
+    → ((y : ℕ) → x .ends ≤ y → y < length s → soft (behind k s x b) y ≡ false → getD s' y 0 ≡ getD s y 0) → behind k s' x b ≡ behind k s x b
+same-behind k s s' x true h same f = soft-run-at (errorBlock k) s s' (x .ends) h same (λ y g l c q. f y g l q)
+same-behind k s s' x false h same f = refl
 
 -- s' differs from s in soft bytes of the messages and of the error block only, and the loop stops on s
-module _ (s s' : List ℕ) (a : SoftenedError s s') (x : Stopped) (stops : stderrLoop s ≡ ok x) where
+module _ (k : ℕ) (s s' : List ℕ) (a : SoftenedError k s s') (x : Stopped) (stops : stderrLoop s ≡ ok x) where
   abbrev block : Pieces
-  block = errorPieces s (stderrLoop s)
+  block = errorPieces k s (stderrLoop s)
 
   abbrev isError : Bool
   isError = eqb (x .code) Error
 
-  block-is : block ≡ behind s x isError
+  block-is : block ≡ behind k s x isError
   unfolding errorPieces
-  block-is = ap (errorPieces s) stops
+  block-is = ap (errorPieces k s) stops
 
   in-stream : x .ends ≤ length s
   unfolding stderrLoop
   in-stream = stops-in s x (suc (length s)) 0 0 stops .1 (omega arith)
 
-  block-placed : Placed (NoFail errorBlock) (length s) (x .ends) block
-  block-placed = rw block-is (behind-placed s x isError in-stream)
+  block-placed : Placed (FailsBy15 (errorBlock k)) (length s) (x .ends) block
+  block-placed = rw block-is (behind-placed k s x isError in-stream)
 
-  hard-in-both : (y : ℕ) → softFrom (suc (length s)) s 0 y ≡ false → soft block y ≡ false → softError s y ≡ false
+  hard-in-both : (y : ℕ) → softFrom (suc (length s)) s 0 y ≡ false → soft block y ≡ false → softError k s y ≡ false
   unfolding softError
   hard-in-both y f g = neither (softFrom (suc (length s)) s 0 y) (soft block y) f g
 
@@ -246,29 +251,29 @@ module _ (s s' : List ℕ) (a : SoftenedError s s') (x : Stopped) (stops : stder
 
   -- the loop stops as it did
   pub soft-error-loop : stderrLoop s' ≡ ok x
-  soft-error-loop = same-loop s s' (a .size) (λ y l k q. a .hard y l (hard-in-both y q (soft-low y block-placed (k x stops)))) ∙ stops
+  soft-error-loop = same-loop s s' (a .size) (λ y l f q. a .hard y l (hard-in-both y q (soft-low y block-placed (f x stops)))) ∙ stops
 
   -- the same pieces of the block
-  pub soft-error-pieces : errorPieces s' (stderrLoop s') ≡ errorPieces s (stderrLoop s)
+  pub soft-error-pieces : errorPieces k s' (stderrLoop s') ≡ errorPieces k s (stderrLoop s)
   unfolding errorPieces
   soft-error-pieces =
-      ap (errorPieces s') soft-error-loop
-      ∙ same-behind s s' x isError in-stream (a .size) (λ y g l q. behind-loop y g l (ap (λ (p : Pieces). soft p y) block-is ∙ q)) ∙ sym block-is
+      ap (errorPieces k s') soft-error-loop
+      ∙ same-behind k s s' x isError in-stream (a .size) (λ y g l q. behind-loop y g l (ap (λ (p : Pieces). soft p y) block-is ∙ q)) ∙ sym block-is
 
   -- where the block is passed to the end e, with room for its entries: what s means, unless a decoded string of s' is not text
-  module _ (e : ℕ) (passed : skipOf (errorPieces s (stderrLoop s)) ≡ ok e) where
-    pub soft-read-error : (slots : ℕ) → keptOf (errorPieces s (stderrLoop s)) ≤ slots
-        → readStderrWithError s' slots ≡ unlessBad s' (errorPieces s (stderrLoop s)) (stderrAnswer e (recordOf (stoppedRecord x) (errorPieces s (stderrLoop s))))
+  module _ (e : ℕ) (passed : skipOf (errorPieces k s (stderrLoop s)) ≡ ok e) where
+    pub soft-read-error : (slots : ℕ) → keptOf (errorPieces k s (stderrLoop s)) ≤ slots
+        → readStderrWithError k s' slots ≡ unlessBad s' (errorPieces k s (stderrLoop s)) (stderrAnswer (pick isError k 0) e (recordOf (stoppedRecord x) (errorPieces k s (stderrLoop s))))
     unfolding readStderrWithError errorPieces
     soft-read-error slots l =
         let r = stoppedRecord x in
-        let z : totalOf block ≡ 0 = ap totalOf block-is ∙ behind-payload s x isError in
-        let same : behind s' x isError ≡ block = sym (ap (errorPieces s') soft-error-loop) ∙ soft-error-pieces in
-        ap (λ (o : Result Stopped). onward o (λ y. ifError (eqb (y .code) Error) y (λ u. judgeOf s' slots 0 (stoppedRecord y) (run errorBlock s' (y .ends))))) soft-error-loop
-        ∙ behind-judged s' x isError slots
-        ∙ ap (λ (p : Pieces). onward (judgeOf s' slots 0 r p) (λ y. stderrAnswer (y .ends) (y .found))) same
-        ∙ ap (λ (o : Result Ended). onward o (λ y. stderrAnswer (y .ends) (y .found))) (judge-room s' slots 0 r block e passed (omega arith) (omega arith))
-        ∙ unless-answered s' block (record { found = recordOf r block; ends = e }) (λ y. stderrAnswer (y .ends) (y .found))
+        let z : totalOf block ≡ 0 = ap totalOf block-is ∙ behind-payload k s x isError in
+        let same : behind k s' x isError ≡ block = sym (ap (errorPieces k s') soft-error-loop) ∙ soft-error-pieces in
+        ap (λ (o : Result Stopped). onward o (λ y. ifError k (eqb (y .code) Error) y (λ u. judgeOf s' slots 0 (stoppedRecord y) (run (errorBlock k) s' (y .ends))))) soft-error-loop
+        ∙ behind-judged k s' x isError slots
+        ∙ ap (λ (p : Pieces). onward (judgeOf s' slots 0 r p) (λ y. stderrAnswer (pick isError k 0) (y .ends) (y .found))) same
+        ∙ ap (λ (o : Result Ended). onward o (λ y. stderrAnswer (pick isError k 0) (y .ends) (y .found))) (judge-room s' slots 0 r block e passed (omega arith) (omega arith))
+        ∙ unless-answered s' block (record { found = recordOf r block; ends = e }) (λ y. stderrAnswer (pick isError k 0) (y .ends) (y .found))
 
     -- what follows is as before
     pub soft-rest-error : drop e s' ≡ drop e s

@@ -20,8 +20,8 @@ use Rattle.layouts.specs.Operations.{Kinds, kindOf, Operation, Row, row,
 use Rattle.layouts.specs.Calls.{Context, chosen, byRow, argumentsTree, skippedTree, replyTree, argumentsKinds, skippedKinds, replyKinds, answered, readOf, readOpArgs, readDaemonResult, skipDaemonResult, skipOpArgs, field, readField, readU32, skipFramed}
 use Rattle.layouts.specs.Writers.{slotsOf, entryStart, entryLength, viewOf, stringBytes, setBytes, writing, writeString, textAt, textsFrom, textsOf, writeStringSet}
 use Rattle.layouts.specs.CallWriter.{fieldsThere, fieldsBy, callFields, valueFor, targetIn, isOfShape, stringsIn, entriesFor, fieldsBytes, stringsOf, shapeBytes, callBytes, writeOpArgs}
-use Rattle.layouts.proofs.Placed.{never-both, NoFail}
-use Rattle.layouts.proofs.Trees.{layout-never-fails}
+use Rattle.layouts.proofs.Placed.{never-both, FailsAt, Fails, FailsBy15}
+use Rattle.layouts.proofs.Trees.{layout-fails-by-15}
 use Rattle.layouts.proofs.Views.{NumView, is-value, is-short, TextView, no-length, too-long, no-contents, no-padding, is-whole, ChunkView, no-size, is-last, too-large, no-bytes, is-part, num-view, text-view, chunk-view}
 
 -- if it is a refusal, its number is not 0
@@ -119,7 +119,7 @@ module _ (s : List ℕ) where
   judge-numbered slots room r (end place) h = tt
   judge-numbered slots room r (fault which place) h = h
 
-  -- of a tree that never fails of itself
+  -- of a tree that fails of itself by 15 alone
   say-numbered : (m : Role) (at : ℕ) (k : ℕ → Pieces) {t : P.Text} → TextView (length s) (numberAt s at) at t → ((a : ℕ) → Numbered (skipOf (k a))) → Numbered (skipOf (afterText t m k))
   unfolding afterText skipOf
   say-numbered m at k (no-length h) g = omega arith
@@ -147,16 +147,23 @@ module _ (s : List ℕ) where
   chunks-numbered zero at k g = omega arith
   chunks-numbered (suc f) at k g = chunk-numbered at (λ a. chunks f s a k) k (chunk-view (length s) (numberAt s at) at) (λ a. chunks-numbered f a k g) g
 
-  pub run-numbered : (t : Tree) (at : ℕ) → NoFail t → Numbered (skipOf (run t s at))
+  fails-numbered : (asked : Bool) (which back : ℕ) → FailsAt asked which back → 0 < which
+  fails-numbered true which back f = omega (arith, f)
+  fails-numbered false which back f = absurd f
+
+  tree-numbered : (asked : Bool) (t : Tree) (at : ℕ) → Fails asked t → Numbered (skipOf (run t s at))
   unfolding run skipOf
-  run-numbered (ask i k) at f = ask-numbered i at (λ n. run (k n) s (at + 8)) (num-view (length s) (numberAt s at) at) (λ n. run-numbered (k n) (at + 8) (f n))
-  run-numbered (say m k) at f = say-numbered m at (λ a. run (k tt) s a) (text-view (length s) (numberAt s at) at) (λ a. run-numbered (k tt) a f)
-  run-numbered (frames k) at f = chunks-numbered (suc (length s)) at (λ a. run (k tt) s a) (λ a. run-numbered (k tt) a f)
-  run-numbered (fail which place) at f = absurd f
-  run-numbered stop at f = tt
+  tree-numbered c (ask i k) at f = ask-numbered i at (λ n. run (k n) s (at + 8)) (num-view (length s) (numberAt s at) at) (λ n. tree-numbered true (k n) (at + 8) (f n))
+  tree-numbered c (say m k) at f = say-numbered m at (λ a. run (k tt) s a) (text-view (length s) (numberAt s at) at) (λ a. tree-numbered false (k tt) a f)
+  tree-numbered c (frames k) at f = chunks-numbered (suc (length s)) at (λ a. run (k tt) s a) (λ a. tree-numbered false (k tt) a f)
+  tree-numbered c (fail which back) at f = fails-numbered c which back f
+  tree-numbered c stop at f = tt
+
+  pub run-numbered : (t : Tree) (at : ℕ) → FailsBy15 t → Numbered (skipOf (run t s at))
+  run-numbered t at f = tree-numbered false t at f
 
   -- of a layout by operation
-  row-numbered : (f : Row) (k : Operation → Tree) → ((o : Operation) → NoFail (k o)) → Numbered (skipOf (run (byRow f k) s 0))
+  row-numbered : (f : Row) (k : Operation → Tree) → ((o : Operation) → FailsBy15 (k o)) → Numbered (skipOf (run (byRow f k) s 0))
   unfolding run skipOf
   row-numbered (row o) k f = run-numbered (k o) 0 (f o)
   row-numbered unknown k f = omega arith
@@ -167,7 +174,7 @@ module _ (s : List ℕ) where
   module _ (op : ℕ) (v : Version) where
     pub skip-reply-numbered : Numbered (skipDaemonResult op v s)
     unfolding skipDaemonResult replyTree
-    skip-reply-numbered = row-numbered (find Ported op) (λ o. layout v (o .reply)) (λ o. layout-never-fails v (o .reply))
+    skip-reply-numbered = row-numbered (find Ported op) (λ o. layout v (o .reply)) (λ o. layout-fails-by-15 v (o .reply))
 
     pub read-reply-numbered : (slots room : ℕ) → Numbered (readDaemonResult op v s slots room)
     unfolding readDaemonResult skipDaemonResult
@@ -175,7 +182,7 @@ module _ (s : List ℕ) where
 
   module _ (c : Context) where
     of-fields : (fields : Operation → List Gated) → Numbered (skipOf (run (byRow (chosen c) (λ o. layout (c .spoken) (once (fields o) ∷ []))) s 0))
-    of-fields fields = row-numbered (chosen c) (λ o. layout (c .spoken) (once (fields o) ∷ [])) (λ o. layout-never-fails (c .spoken) (once (fields o) ∷ []))
+    of-fields fields = row-numbered (chosen c) (λ o. layout (c .spoken) (once (fields o) ∷ [])) (λ o. layout-fails-by-15 (c .spoken) (once (fields o) ∷ []))
 
     pub read-arguments-numbered : (slots room : ℕ) → Numbered (readOpArgs c s slots room)
     unfolding readOpArgs argumentsTree
@@ -188,7 +195,7 @@ module _ (s : List ℕ) where
   -- of one field
   module _ (at : ℕ) where
     pub skip-field-numbered : (w : What) → Numbered (skipOf (run (field w) s at))
-    skip-field-numbered w = run-numbered (field w) at (layout-never-fails (version 0 0) (once (always w ∷ []) ∷ []))
+    skip-field-numbered w = run-numbered (field w) at (layout-fails-by-15 (version 0 0) (once (always w ∷ []) ∷ []))
 
     pub read-field-numbered : (w : What) (slots room : ℕ) → Numbered (readField w s at slots room)
     read-field-numbered w slots room = judge-numbered slots room blank (run (field w) s at) (skip-field-numbered w)

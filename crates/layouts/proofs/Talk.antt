@@ -18,8 +18,8 @@ use Rattle.layouts.specs.Operations.{N}
 use Rattle.layouts.specs.Stderr.{Last}
 use Rattle.layouts.specs.Soft.{soft, softHeard, SoftenedOn, unlessBad, skipHeard, recordHeard, keptHeard, orOn, unlessHeard}
 use Rattle.layouts.specs.Demands.{Verdict, all-text, first-bad, in-turn, after-turn, VerdictHeard, all-heard, first-heard, bothMean, handshakeMeaning, daemonMeaning}
-use Rattle.layouts.proofs.Trees.{AllFit, no-payload, layout-never-fails}
-use Rattle.layouts.proofs.Placed.{never-both, NoFail, run-placed, ends, soft-low, soft-high, neither}
+use Rattle.layouts.proofs.Trees.{AllFit, no-payload, layout-fails-by-15}
+use Rattle.layouts.proofs.Placed.{never-both, FailsBy15, run-placed, ends, soft-low, soft-high, neither}
 use Rattle.layouts.proofs.Soft.{Before, soft-run-at, same-drop}
 use Rattle.layouts.proofs.Judge.{record-room, judge-room}
 use Rattle.layouts.proofs.Theorems.{unless-bad}
@@ -305,7 +305,7 @@ module _ (s u : List ℕ) (slots : ℕ) where
   rest-numbered d (ok e) k r h g = g e
   rest-numbered d (refused which place stream) k r h g = h
 
-  hear-numbered : {x : Talk} → EachTurn NoFail x → (a b : ℕ) (r q : Record) → Numbered (judgeHeard s u slots q (hear x s u a b r))
+  hear-numbered : {x : Talk} → EachTurn FailsBy15 x → (a b : ℕ) (r q : Record) → Numbered (judgeHeard s u slots q (hear x s u a b r))
   unfolding hear judgeHeard
   hear-numbered (at-turn {d = false} {t} {k} f g) a b r q =
       let p = run t s a in
@@ -320,16 +320,16 @@ module _ (s u : List ℕ) (slots : ℕ) where
   hear-numbered (at-lost h) a b r q = h
   hear-numbered at-over a b r q = tt
 
-never-fails : (v : Version) (is : List Gated) → AllFit ⊥ is → NoFail (fieldsAt v is)
-never-fails v is f = layout-never-fails v (once is ∷ [])
+turn-fails-by-15 : (v : Version) (is : List Gated) → AllFit ⊥ is → FailsBy15 (fieldsAt v is)
+turn-fails-by-15 v is f = layout-fails-by-15 v (once is ∷ [])
 
 pub handshake-numbered : (s u : List ℕ) (slots : ℕ) → Numbered (parseHandshake s u slots)
 unfolding parseHandshake
-handshake-numbered s u slots = onward-numbered (judgeHeard s u slots blank _) _ (hear-numbered s u slots (handshake-turns NoFail never-fails) 0 0 blank blank) (λ x. tt)
+handshake-numbered s u slots = onward-numbered (judgeHeard s u slots blank _) _ (hear-numbered s u slots (handshake-turns FailsBy15 turn-fails-by-15) 0 0 blank blank) (λ x. tt)
 
 pub daemon-handshake-numbered : (c : Version) (u : List ℕ) (slots : ℕ) → Numbered (parseDaemonHandshake c u slots)
 unfolding parseDaemonHandshake
-daemon-handshake-numbered c u slots = onward-numbered (judgeHeard [] u slots blank _) _ (hear-numbered [] u slots (daemon-turns NoFail never-fails c) 0 0 blank blank) (λ x. tt)
+daemon-handshake-numbered c u slots = onward-numbered (judgeHeard [] u slots blank _) _ (hear-numbered [] u slots (daemon-turns FailsBy15 turn-fails-by-15 c) 0 0 blank blank) (λ x. tt)
 
 -- ---- what `unlessHeard` says, in RFC 3629's words
 module _ {A : Type 0} (s u : List ℕ) where

@@ -20,7 +20,7 @@ use Rattle.layouts.specs.Demands.{RefusedBy, Untouched, AllText, FirstBa
 use Rattle.layouts.proofs.Soft.{soft-run-from}
 use Rattle.layouts.proofs.Placed.{run-placed}
 use Rattle.layouts.proofs.Judge.{not-bad, text-bad, judge-room, judge-read, judge-refused}
-use Rattle.layouts.proofs.Trees.{layout-never-fails}
+use Rattle.layouts.proofs.Trees.{layout-fails-by-15}
 
 -- s' is as s but for soft bytes of what the tree has from a place on
 module _ (t : Tree) (s s' : List ℕ) (at : ℕ) (h : at ≤ length s) (a : Softened (run t s at) s s') where
@@ -92,7 +92,7 @@ module _ (s s' : List ℕ) (same : length s' ≡ length s) where
 -- reading agrees with skipping: where a layout's skipping refuses, its reading refuses too, there or earlier
 pub skip-refused : (v : Version) (gs : List Group) (s : List ℕ) (slots room which place : ℕ) → skipOf (run (layout v gs) s 0) ≡ refused which place 0
     → RefusedBy place (judgeOf s slots room blank (run (layout v gs) s 0))
-skip-refused v gs s slots room which place q = judge-refused s slots room blank (layout-never-fails v gs) (run-placed (layout v gs) s 0 (omega arith)) q
+skip-refused v gs s slots room which place q = judge-refused s slots room blank (layout-fails-by-15 v gs) (run-placed (layout v gs) s 0 (omega arith)) q
 
 pub never-true : false ≡ true → ⊥
 never-true e = let z : _≡_ {A = ℕ} 0 1 = cc in omega arith

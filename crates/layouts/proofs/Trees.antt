@@ -1,14 +1,14 @@
--- What each node of a tree hands on holds of every layout: a layout never fails of itself, and one without framed data has no payload.
-use Prim.Native.Nat.{ℕ, zero, suc}
-use mathlib.Core.Path.{_≡_, refl}
+-- What each node of a tree hands on holds of every layout: a layout fails of itself at a position alone, and one without framed data has no payload.
+use Prim.Native.Nat.{ℕ, zero, suc, _+_}
+use mathlib.Core.Path.{_≡_, refl, sym, subst}
 use mathlib.Core.List.{List, [], _∷_}
 use mathlib.Core.Bool.{Bool, true, false}
 use lib.ListN.{length}
-use Rattle.layouts.specs.Primitive.{Version, numberAt}
-use Rattle.layouts.specs.Shape.{Target, dropped, Role, passed, What, num, str, set, pairs, framed, maybe, typed, Gated, Group, once, opt, many, Tree, ask, say, frames, stop, strings, units, ifTrue, byType, field, there, what, gated, fields, repeated, truth, group, groups, layout}
+use Rattle.layouts.specs.Primitive.{Version, numberAt, nonzeroPosition}
+use Rattle.layouts.specs.Shape.{Target, dropped, Role, passed, What, num, str, set, pairs, framed, maybe, typed, position, Gated, Group, once, opt, many, Tree, ask, say, frames, fail, stop, strings, units, ifTrue, byType, ifZero, field, there, what, gated, fields, repeated, truth, group, groups, layout}
 use Rattle.layouts.specs.Pieces.{Pieces, Num, Text, afterNum, afterText, run, totalOf}
 use Rattle.layouts.proofs.Views.{NumView, is-value, is-short, TextView, no-length, too-long, no-contents, no-padding, is-whole, num-view, text-view}
-use Rattle.layouts.proofs.Placed.{NoFail}
+use Rattle.layouts.proofs.Placed.{Fails, FailsBy15}
 
 -- F holds where a field is framed data
 abbrev Fits : Type 0 → What → Type 0
@@ -19,6 +19,7 @@ Fits F (pairs r i) = Unit {0}
 Fits F framed = F
 Fits F maybe = Unit {0}
 Fits F typed = Unit {0}
+Fits F position = Unit {0}
 
 abbrev pub AllFit : Type 0 → List Gated → Type 0
 AllFit F [] = Unit {0}
@@ -31,7 +32,8 @@ GroupsFit F (opt i is ∷ gs) = AllFit F is × GroupsFit F gs
 GroupsFit F (many i is ∷ gs) = AllFit F is × GroupsFit F gs
 
 module _ (F : Type 0) (P : Tree → Type 0) (asks : (i : Target) (k : ℕ → Tree) → ((n : ℕ) → P (k n)) → P (ask i k))
-    (says : (m : Role) (k : Unit {0} → Tree) → P (k tt) → P (say m k)) (framing : F → (k : Unit {0} → Tree) → P (k tt) → P (frames k)) where
+    (tests : (k : Unit {0} → Tree) → P (k tt) → P (ask dropped (λ n. ifZero n k))) (says : (m : Role) (k : Unit {0} → Tree) → P (k tt) → P (say m k))
+    (framing : F → (k : Unit {0} → Tree) → P (k tt) → P (frames k)) where
   of-strings : (r : Role) (n : ℕ) (k : Unit {0} → Tree) → P (k tt) → P (strings r n k)
   unfolding strings
   of-strings r zero k h = h
@@ -60,6 +62,7 @@ module _ (F : Type 0) (P : Tree → Type 0) (asks : (i : Target) (k : ℕ → Tr
   of-field true framed k f h = framing f k h
   of-field true maybe k f h = asks dropped (λ n. ifTrue n k) (λ n. of-maybe n k h)
   of-field true typed k f h = asks dropped (λ n. byType n k) (λ n. of-typed n k h)
+  of-field true position k f h = tests k h
 
   module _ (v : Version) where
     pub of-fields : (is : List Gated) (k : Unit {0} → Tree) → AllFit F is → P (k tt) → P (fields v is k)
@@ -81,7 +84,7 @@ module _ (F : Type 0) (P : Tree → Type 0) (asks : (i : Target) (k : ℕ → Tr
     of-groups (many i is ∷ gs) k f h =
         asks i (λ n. repeated n v is (λ u. groups v gs k)) (λ n. of-repeated n is (λ u. groups v gs k) (f .0) (of-groups gs k (f .1) h))
 
--- ---- a layout never fails of itself
+-- ---- a layout fails of itself at a position alone
 fits : (w : What) → Fits (Unit {0}) w
 fits (num i) = tt
 fits (str r) = tt
@@ -90,6 +93,7 @@ fits (pairs r i) = tt
 fits framed = tt
 fits maybe = tt
 fits typed = tt
+fits position = tt
 
 all-fit : (is : List Gated) → AllFit (Unit {0}) is
 all-fit [] = tt
@@ -101,9 +105,23 @@ groups-fit (once is ∷ gs) = (all-fit is, groups-fit gs)
 groups-fit (opt i is ∷ gs) = (all-fit is, groups-fit gs)
 groups-fit (many i is ∷ gs) = (all-fit is, groups-fit gs)
 
-pub layout-never-fails : (v : Version) (gs : List Group) → NoFail (layout v gs)
+asked : (t : Tree) → FailsBy15 t → Fails true t
+asked (ask i k) f = f
+asked (say m k) f = f
+asked (frames k) f = f
+asked (fail which back) f = absurd f
+asked stop f = f
+
+not-zero : (n : ℕ) (k : Unit {0} → Tree) → ifZero (suc n) k ≡ fail nonzeroPosition 8
+not-zero n k = refl
+
+tested : (k : Unit {0} → Tree) → FailsBy15 (k tt) → (n : ℕ) → Fails true (ifZero n k)
+tested k f zero = asked (k tt) f
+tested k f (suc n) = subst (Fails true) (sym (not-zero n k)) (refl, refl)
+
+pub layout-fails-by-15 : (v : Version) (gs : List Group) → FailsBy15 (layout v gs)
 unfolding layout
-layout-never-fails v gs = of-groups (Unit {0}) NoFail (λ i k h. h) (λ m k h. h) (λ f k h. h) v gs (λ u. stop) (groups-fit gs) tt
+layout-fails-by-15 v gs = of-groups (Unit {0}) FailsBy15 (λ i k h n. asked (k n) (h n)) tested (λ m k h. h) (λ f k h. h) v gs (λ u. stop) (groups-fit gs) tt
 
 -- ---- without framed data there is no payload
 NoPayload : Tree → Type 0
@@ -122,11 +140,17 @@ text-payload r k (no-contents h l c) e = refl
 text-payload r k (no-padding h l c) e = refl
 text-payload r k (is-whole h l) e = e _
 
+zero-payload : (n : ℕ) (k : Unit {0} → Tree) → NoPayload (k tt) → NoPayload (ifZero n k)
+unfolding NoPayload run totalOf
+zero-payload zero k h s at = h s at
+zero-payload (suc n) k h s at = refl
+
 pub groups-no-payload : (v : Version) (gs : List Group) → GroupsFit ⊥ gs → (s : List ℕ) (at : ℕ) → totalOf (run (layout v gs) s at) ≡ 0
 unfolding layout run NoPayload totalOf
 groups-no-payload v gs f =
     of-groups ⊥ NoPayload
     (λ i k h s at. num-payload i (λ n. run (k n) s _) (num-view (length s) (numberAt s at) at) (h _ s _))
+    (λ k h s at. num-payload dropped (λ n. run (ifZero n k) s (at + 8)) (num-view (length s) (numberAt s at) at) (zero-payload (numberAt s at) k h s (at + 8)))
     (λ m k h s at. text-payload m (λ a. run (k tt) s a) (text-view (length s) (numberAt s at) at) (λ a. h s a))
     (λ f k h. absurd f) v gs (λ u. stop) f (λ s at. refl)
 

@@ -6,7 +6,7 @@ use lib.ListN.{length, getD, take, drop}
 use lib.ListN as ListN
 use lib.Dec.{leb, eqb}
 use Rattle.layouts.specs.Primitive.{pick, numberBytes, Version, unknownOperation, noSuchEntry, noArguments, notOfShape, Result, ok, refused, onward}
-use Rattle.layouts.specs.Shape.{Target, dropped, asNumber, asFlag, asCount, asPresence, What, num, str, set, pairs, framed, maybe, typed, Gated, there, what}
+use Rattle.layouts.specs.Shape.{Target, dropped, asNumber, asFlag, asCount, asPresence, What, num, str, set, pairs, framed, maybe, typed, position, Gated, there, what}
 use Rattle.layouts.specs.Operations.{kindOf, Operation, Row, row, unknown}
 use Rattle.layouts.specs.Calls.{Context, chosen, argumentsKinds}
 use Rattle.layouts.specs.Writers.{slotsOf, stringsBytes, framedBytes, textsFrom, writing}
@@ -39,6 +39,7 @@ targetIn (pairs m t) = t
 targetIn framed = dropped
 targetIn maybe = dropped
 targetIn typed = dropped
+targetIn position = dropped
 
 -- 14: what is left of the numbers where the fields have taken theirs must be 0, and a flag takes 0 and 1 only
 unfoldable pub leave : (numbers left : List ℕ) → Target → List ℕ
@@ -64,6 +65,7 @@ isFramed (pairs m t) = false
 isFramed framed = true
 isFramed maybe = false
 isFramed typed = false
+isFramed position = false
 
 unfoldable pub hasFrames : List What → Bool
 hasFrames [] = false
@@ -81,6 +83,7 @@ stringsIn ns (pairs m t) = valueFor ns t + valueFor ns t
 stringsIn ns framed = 0
 stringsIn ns maybe = 0
 stringsIn ns typed = 0
+stringsIn ns position = 0
 
 -- how many entries the fields use, after the first n; 11 at the count, at a single string 0
 unfoldable pub entriesFor : (numbers : List ℕ) → (slots n : ℕ) → List What → Result ℕ
@@ -88,7 +91,7 @@ entriesFor ns slots n [] = ok n
 entriesFor ns slots n (w ∷ ws) =
     pick (leb (n + stringsIn ns w) slots) (entriesFor ns slots (n + stringsIn ns w) ws) (refused noSuchEntry (valueFor ns (targetIn w)) 0)
 
--- ---- the bytes of a field with its strings. No call has `maybe` or `typed`
+-- ---- the bytes of a field with its strings. No call has `maybe`, `typed` or `position`
 unfoldable pub fieldBytes : (numbers payload : List ℕ) → (strings : List (List ℕ)) → What → List ℕ
 fieldBytes ns p cs (num t) = numberBytes (valueFor ns t)
 fieldBytes ns p cs (str m) = stringsBytes cs
@@ -97,6 +100,7 @@ fieldBytes ns p cs (pairs m t) = numberBytes (valueFor ns t) ++ stringsBytes cs
 fieldBytes ns p cs framed = framedBytes p
 fieldBytes ns p cs maybe = []
 fieldBytes ns p cs typed = []
+fieldBytes ns p cs position = []
 
 unfoldable pub fieldsBytes : (numbers payload : List ℕ) → (strings : List (List ℕ)) → List What → List ℕ
 fieldsBytes ns p cs [] = []

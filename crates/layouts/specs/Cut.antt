@@ -12,6 +12,10 @@ use Rattle.layouts.specs.Refusal.{refusal, refusedBy}
 abbrev pub CutBefore : (e : ℕ) → (s s' : List ℕ) → Type 0
 CutBefore e s s' = (n : ℕ) × (n < e) × (s' ≡ take n s)
 
+-- the same behind a place b, where messages end in Error: s' has all of them
+abbrev pub CutBehind : (b e : ℕ) → (s s' : List ℕ) → Type 0
+CutBehind b e s s' = (n : ℕ) × (b ≤ n) × (n < e) × (s' ≡ take n s)
+
 -- s' has the first e bytes of s: behind them bytes were added, taken or changed
 abbrev pub SameTo : (e : ℕ) → (s s' : List ℕ) → Type 0
 SameTo e s s' = take e s' ≡ take e s

@@ -1,16 +1,17 @@
 -- The worked examples P1 to P12 of document 01: one table. A second one, of the errors that 01 calls easy and of the order of judging. A third one, of calls that
--- are written. A fourth one, of both modes.
+-- are written. A fourth one, of both modes, and a fifth one, of error blocks.
 use Prim.Native.Nat.{ℕ}
 use mathlib.Core.List.{List, [], _∷_, _++_}
 use mathlib.Core.Bool.{Bool}
 use lib.ListN.{replicate, getD}
+use Rattle.layouts.specs.declared.Mode.{Mode}
 use Rattle.layouts.specs.declared.Mode.the-variants.{Ported, Published}
 use Rattle.layouts.specs.Primitive.{pick, numberBytes, version, fromWire, atLeast, Version, Result, ok, refused}
 use Rattle.layouts.specs.Shape.{kept, str, framed}
 use Rattle.layouts.specs.Pieces.{run}
 use Rattle.layouts.specs.Judge.{Ended, entriesOf, payloadOf}
 use Rattle.layouts.specs.Calls.{Context, context, Answer, readOpArgs, skipOpArgs, skipDaemonResult, field, skipString, readString, readStringSet, readFramed}
-use Rattle.layouts.specs.Stderr.{Next, Last, readStderrLoop}
+use Rattle.layouts.specs.Stderr.{Next, Last, Error, readStderrLoop, errorKind, readStderrWithError}
 use Rattle.layouts.specs.Handshake.{parseHandshake}
 use Rattle.layouts.specs.Writers.{partOf}
 use Rattle.layouts.specs.CallWriter.{callBytes, writeOpArgs}
@@ -160,4 +161,41 @@ modes =
     -- written, a pair is two strings
     ex (partOf (callBytes (asPublished 30 22) (replicate 12 0 ++ (1 ∷ 0 ∷ 0 ∷ [])) [] (replicate 4 0) [])) one-pair ∷
     ex (partOf (callBytes (asPublished 42 30) (replicate 15 0) [] (replicate 4 0) [])) (N# 0 ++ N# 0) ∷
+    []
+
+-- an error of level 5 with empty strings, and behind it these numbers
+abbrev pub failed : List ℕ → List ℕ
+failed more = N# Error ++ N# 0 ++ N# 5 ++ N# 0 ++ N# 0 ++ more
+
+abbrev pub one-trace : List ℕ
+one-trace = failed (N# 0 ++ N# 1 ++ N# 0 ++ N# 0)
+
+-- read at 1.x in a mode: kind, end, number 2, count 0; or the refusal's number and place
+abbrev pub errorTold : Result Answer → List ℕ
+errorTold (ok a) = a .kind ∷ a .ends ∷ getD (a .found .numbers) 2 0 ∷ getD (a .found .counts) 0 0 ∷ []
+errorTold (refused which place stream) = which ∷ place ∷ []
+
+abbrev pub erred : Mode → (x : ℕ) → List ℕ → (slots : ℕ) → List ℕ
+erred m x s slots = errorTold (readStderrWithError (errorKind m (version 1 x)) s slots)
+
+unfoldable pub errors : List Example
+errors =
+    -- from 1.26 on the traces belong to the block; below, the first string is the message and 5 the exit status
+    ex (erred Published 26 one-trace 4) (1 ∷ 72 ∷ 5 ∷ 1 ∷ []) ∷
+    ex (erred Published 25 one-trace 4) (2 ∷ 24 ∷ 5 ∷ 0 ∷ []) ∷
+    -- in ported mode the block ends at the position, at every version
+    ex (erred Ported 26 one-trace 4) (0 ∷ 48 ∷ 5 ∷ 0 ∷ []) ∷
+    ex (erred Ported 25 one-trace 4) (0 ∷ 48 ∷ 5 ∷ 0 ∷ []) ∷
+    -- no trace
+    ex (erred Published 38 (failed (N# 0 ++ N# 0)) 3) (1 ∷ 56 ∷ 5 ∷ 0 ∷ []) ∷
+    -- a position that is not 0: 15 at it; one that is cut short: 1. The same of a trace's
+    ex (erred Published 26 (failed (N# 7)) 3) (15 ∷ 40 ∷ []) ∷
+    ex (erred Published 26 (failed (replicate 7 1)) 3) (1 ∷ 40 ∷ []) ∷
+    ex (erred Published 26 (failed (N# 0 ++ N# 1 ++ N# 7)) 3) (15 ∷ 56 ∷ []) ∷
+    ex (erred Published 26 (failed (N# 0 ++ N# 1 ++ replicate 7 1)) 3) (1 ∷ 56 ∷ []) ∷
+    -- a trace is decoded and takes a slot: 3; 4 at its length
+    ex (erred Published 26 (failed (N# 0 ++ N# 1 ++ N# 0 ++ N# 1 ++ (0xFF ∷ replicate 7 0))) 4) (3 ∷ 72 ∷ []) ∷
+    ex (erred Published 26 one-trace 3) (4 ∷ 64 ∷ []) ∷
+    -- where no error follows the kind is 0
+    ex (erred Published 26 (N# Last) 0) (0 ∷ 8 ∷ 0 ∷ 0 ∷ []) ∷
     []

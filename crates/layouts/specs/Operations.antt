@@ -7,7 +7,7 @@ use lib.Dec.{eqb}
 use Rattle.layouts.specs.declared.Mode.{Mode}
 use Rattle.layouts.specs.declared.Mode.the-variants.{Ported, Published}
 use Rattle.layouts.specs.Primitive.{pick, Version, version, atLeast}
-use Rattle.layouts.specs.Shape.{Target, dropped, asNumber, asFlag, asCount, asPresence, passed, checked, kept, What, num, str, set, pairs, framed, maybe, typed, Gated, always, from, below, between, Group, once, opt, many}
+use Rattle.layouts.specs.Shape.{Target, dropped, asNumber, asFlag, asCount, asPresence, passed, checked, kept, What, num, str, set, pairs, framed, maybe, typed, position, Gated, always, from, below, between, Group, once, opt, many}
 
 -- ---- letters
 abbrev pub N : ℕ → Gated
@@ -160,6 +160,7 @@ lowered k (pairs r i) = pairs passed (countTarget k) ∷ []
 lowered k framed = []
 lowered k maybe = maybe ∷ []
 lowered k typed = typed ∷ []
+lowered k position = position ∷ []
 
 abbrev pub loweredGated : Skip → Gated → List Gated
 loweredGated k (always w) = map always (lowered k w)

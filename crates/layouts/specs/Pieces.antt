@@ -1,6 +1,6 @@
 -- The pieces of a stream that a tree has from a place on, up to its end or the first refusal. Numbers alone decide them: of a stream, `run` asks
 -- its length and the numbers.
-use Prim.Native.Nat.{ℕ, zero, suc, _+_}
+use Prim.Native.Nat.{ℕ, zero, suc, _+_, _-_}
 use mathlib.Core.List.{List}
 use lib.ListN.{length}
 use lib.Dec.{ltb, leb, eqb}
@@ -79,7 +79,7 @@ unfolding afterNum afterText chunks
 run (ask i k) s at = afterNum (numOf (length s) (numberAt s at) at) i at (λ n. run (k n) s (at + 8))
 run (say r k) s at = afterText (textOf (length s) (numberAt s at) at) r (λ at'. run (k tt) s at')
 run (frames k) s at = chunks (suc (length s)) s at (λ at'. run (k tt) s at')
-run (fail which place) s at = fault which place
+run (fail which back) s at = fault which (at - back)
 run stop s at = end at
 
 unfoldable pub pieces : Version → List Group → List ℕ → Pieces

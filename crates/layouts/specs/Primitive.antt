@@ -115,6 +115,10 @@ noArguments = 13
 abbrev pub notOfShape : ℕ
 notOfShape = 14
 
+-- a position in an error block is not 0: at that number
+abbrev pub nonzeroPosition : ℕ
+nonzeroPosition = 15
+
 -- ---- what a call answers; the stream is 1 for the daemon's of a handshake and else 0
 pub data Result (A : Type 0) : Type 0 where
   ok : A → Result A

@@ -1,6 +1,6 @@
 -- When a call refuses, by the rows of document 01's table and without the walk: a beginning of the stream reads, and the piece that comes next is at fault.
 -- `Grammar` says the same of what succeeds.
-use Prim.Native.Nat.{ℕ, _+_, _≤_, _<_}
+use Prim.Native.Nat.{ℕ, _+_, _-_, _≤_, _<_}
 use mathlib.Core.Path.{_≡_}
 use mathlib.Core.List.{List, [], _++_}
 use mathlib.Core.Bool.{true, false}
@@ -46,7 +46,7 @@ pub data Measured : Tree → Type 0 where
   a-string : (m : Role) (k : Unit {0} → Tree) → Measured (say m k)
   chunks : (k : Unit {0} → Tree) → Measured (frames k)
 
--- the piece that comes next is at fault: 01's rows 1 to 5 and 9
+-- the piece that comes next is at fault, 01's rows 1 to 5, or the tree itself fails
 pub data Fault (slots room : ℕ) : Tree → (at : ℕ) → Record → List ℕ → (which place : ℕ) → Type 0 where
   -- 1: it needs more bytes than remain; its start
   cut : (t : Tree) (at further n : ℕ) (r : Record) (u : List ℕ) → Needs t u further n → length u < further + n → Fault slots room t at r u cutShort (at + further)
@@ -62,8 +62,8 @@ pub data Fault (slots room : ℕ) : Tree → (at : ℕ) → Record → List ℕ 
   -- 5: a chunk does not fit in what is left; its length
   no-room : (at : ℕ) (k : Unit {0} → Tree) (r : Record) (c u : List ℕ) → 0 < length c → length c ≤ limit → room < r .payload + length c
       → Fault slots room (frames k) at r (numberBytes (length c) ++ (c ++ u)) noPayloadRoom at
-  -- 9: the operation is not in the table; before any byte
-  unknown : (which place at : ℕ) (r : Record) (u : List ℕ) → Fault slots room (fail which place) at r u which place
+  -- 9: the operation is not in the table; before any byte. 15: a position is not 0; that number, which was read just before
+  fails : (which back at : ℕ) (r : Record) (u : List ℕ) → Fault slots room (fail which back) at r u which (at - back)
 
 -- a beginning reads to the tree's end, with this record and at this place
 pub record Answers (slots room : ℕ) (t : Tree) (at : ℕ) (r : Record) (s : List ℕ) (found : Record) (ends : ℕ) : Type 0 where
@@ -88,7 +88,7 @@ abbrev pub lowerCase : Tree → Tree
 lowerCase (ask i k) = ask i (λ n. lowerCase (k n))
 lowerCase (say m k) = say passed (λ u. lowerCase (k u))
 lowerCase (frames k) = frames (λ u. lowerCase (k u))
-lowerCase (fail which place) = fail which place
+lowerCase (fail which back) = fail which back
 lowerCase stop = stop
 
 -- when a handshake refuses, from places of both streams on: turns that read, and then one that is refused on its stream, or rows 6 to 8

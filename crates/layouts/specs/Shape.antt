@@ -2,7 +2,7 @@
 use Prim.Native.Nat.{ℕ, zero, suc}
 use mathlib.Core.List.{List, [], _∷_}
 use mathlib.Core.Bool.{Bool, true, false, not, _&&_}
-use Rattle.layouts.specs.Primitive.{Version, version, atLeast}
+use Rattle.layouts.specs.Primitive.{Version, version, atLeast, nonzeroPosition}
 
 -- what becomes of a number: nothing; it is number i of the record; the same, as a flag; count i; it says whether a group is there
 pub data Target : Type 0 where
@@ -18,7 +18,7 @@ pub data Role : Type 0 where
   checked : Role
   kept : Role
 
--- a field: N; S; S*; P; F; a flag with N if it is true; a type with N if it is 0 and else s
+-- a field: N; S; S*; P; F; a flag with N if it is true; a type with N if it is 0 and else s; a position, a number that must be 0
 pub data What : Type 0 where
   num : Target → What
   str : Role → What
@@ -27,6 +27,7 @@ pub data What : Type 0 where
   framed : What
   maybe : What
   typed : What
+  position : What
 
 -- always there; there from version 1.x on; there below it; there from 1.x on and below 1.y
 pub data Gated : Type 0 where
@@ -41,12 +42,12 @@ pub data Group : Type 0 where
   opt : Target → List Gated → Group
   many : Target → List Gated → Group
 
--- ask for a number; say a string; frames; fail; stop. The functions keep what follows from being computed before it is asked for
+-- ask for a number; say a string; frames; fail, so many bytes back; stop. The functions keep what follows from being computed before it is asked for
 pub data Tree : Type 0 where
   ask : Target → (ℕ → Tree) → Tree
   say : Role → (Unit {0} → Tree) → Tree
   frames : (Unit {0} → Tree) → Tree
-  fail : (which place : ℕ) → Tree
+  fail : (which back : ℕ) → Tree
   stop : Tree
 
 -- n strings
@@ -68,6 +69,11 @@ abbrev pub byType : ℕ → (Unit {0} → Tree) → Tree
 byType zero k = ask dropped (λ v. k tt)
 byType (suc n) k = say passed k
 
+-- refused at the number itself, which is 8 bytes
+abbrev pub ifZero : ℕ → (Unit {0} → Tree) → Tree
+ifZero zero k = k tt
+ifZero (suc n) k = fail nonzeroPosition 8
+
 unfoldable pub field : What → (Unit {0} → Tree) → Tree
 unfolding units
 field (num i) k = ask i (λ n. k tt)
@@ -77,6 +83,7 @@ field (pairs r i) k = ask i (λ n. units r 1 n k)
 field framed k = frames k
 field maybe k = ask dropped (λ n. ifTrue n k)
 field typed k = ask dropped (λ n. byType n k)
+field position k = ask dropped (λ n. ifZero n k)
 
 abbrev pub there : Version → Gated → Bool
 there v (always w) = true

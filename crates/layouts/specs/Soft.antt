@@ -113,9 +113,9 @@ pub record SoftenedStderr (s s' : List ℕ) : Type 0 where
   pub hard : (x : ℕ) → x < length s → softFrom (suc (length s)) s 0 x ≡ false → getD s' x 0 ≡ getD s x 0
 
 -- ---- the same of `read_stderr_with_error`: of the messages, and of the error block behind an Error
-unfoldable pub softError : List ℕ → (x : ℕ) → Bool
-softError s x = softFrom (suc (length s)) s 0 x || soft (errorPieces s (stderrLoop s)) x
+unfoldable pub softError : (kind : ℕ) → List ℕ → (x : ℕ) → Bool
+softError k s x = softFrom (suc (length s)) s 0 x || soft (errorPieces k s (stderrLoop s)) x
 
-pub record SoftenedError (s s' : List ℕ) : Type 0 where
+pub record SoftenedError (kind : ℕ) (s s' : List ℕ) : Type 0 where
   pub size : length s' ≡ length s
-  pub hard : (x : ℕ) → x < length s → softError s x ≡ false → getD s' x 0 ≡ getD s x 0
+  pub hard : (x : ℕ) → x < length s → softError kind s x ≡ false → getD s' x 0 ≡ getD s x 0

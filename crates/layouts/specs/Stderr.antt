@@ -4,9 +4,11 @@ use mathlib.Core.List.{List, [], _∷_}
 use mathlib.Core.Bool.{Bool, true, false}
 use lib.ListN.{length}
 use lib.Dec.{leb, eqb}
+use Rattle.layouts.specs.declared.Mode.{Mode}
+use Rattle.layouts.specs.declared.Mode.the-variants.{Ported, Published}
 use Rattle.layouts.specs.declared.Record.{Record}
-use Rattle.layouts.specs.Primitive.{pick, numberAt, version, Result, ok, refused, onward}
-use Rattle.layouts.specs.Shape.{dropped, typed, always, Group, once, opt, many, Tree, layout}
+use Rattle.layouts.specs.Primitive.{pick, numberAt, Version, version, atLeast, Result, ok, refused, onward}
+use Rattle.layouts.specs.Shape.{dropped, asCount, typed, position, always, Group, once, opt, many, Tree, layout}
 use Rattle.layouts.specs.Pieces.{Pieces, end, fault, run, skipOf}
 use Rattle.layouts.specs.Record.{blank, withNumber}
 use Rattle.layouts.specs.Judge.{Ended, judgeOf}
@@ -85,29 +87,48 @@ stderrFrom (suc f) s at m =
 unfoldable pub stderrLoop : List ℕ → Result Stopped
 stderrLoop s = stderrFrom (suc (length s)) s 0 0
 
--- ---- answers: numbers 0 and 1 are the count and the terminal code, 2 the error's level
+-- ---- answers: numbers 0 and 1 are the count and the terminal code, 2 the error's level or exit status; count 0 is that of its traces
 abbrev pub stoppedRecord : Stopped → Record
 stoppedRecord x = withNumber (withNumber blank 0 (x .messages)) 1 (x .code)
 
-abbrev pub stderrAnswer : (ends : ℕ) → Record → Result Answer
-stderrAnswer e r = ok (record { kind = 0; ends = e; ends2 = 0; found = r })
+abbrev pub stderrAnswer : (kind ends : ℕ) → Record → Result Answer
+stderrAnswer k e r = ok (record { kind = k; ends = e; ends2 = 0; found = r })
 
 unfoldable pub readStderrLoop : List ℕ → Result Answer
-readStderrLoop s = onward (stderrLoop s) (λ x. stderrAnswer (x .ends) (stoppedRecord x))
+readStderrLoop s = onward (stderrLoop s) (λ x. stderrAnswer 0 (x .ends) (stoppedRecord x))
+
+-- ---- the error block, by the kind of its answer
+abbrev pub errorKind : Mode → Version → ℕ
+errorKind Ported v = 0
+errorKind Published v = pick (atLeast v (version 1 26)) 1 2
 
 -- S type, N level, S name, S message, N; if that is nonzero, s N N
-unfoldable pub errorBlock : Tree
-errorBlock = layout (version 0 0) (once (S ∷ N 2 ∷ S ∷ S ∷ []) ∷ opt dropped (s ∷ n ∷ n ∷ []) ∷ [])
+abbrev pub portedError : List Group
+portedError = once (S ∷ N 2 ∷ S ∷ S ∷ []) ∷ opt dropped (s ∷ n ∷ n ∷ []) ∷ []
 
-abbrev pub ifError : (is : Bool) → Stopped → (Unit {0} → Result Ended) → Result Answer
-ifError true x block = onward (block tt) (λ e. stderrAnswer (e .ends) (e .found))
-ifError false x block = stderrAnswer (x .ends) (stoppedRecord x)
+-- S type, N level, S name, S message, a position; a count of traces, each a position and S
+abbrev pub tracedError : List Group
+tracedError = once (S ∷ N 2 ∷ S ∷ S ∷ always position ∷ []) ∷ many (asCount 0) (always position ∷ S ∷ []) ∷ []
 
-unfoldable pub readStderrWithError : List ℕ → (slots : ℕ) → Result Answer
-readStderrWithError s slots =
-    onward (stderrLoop s) (λ x. ifError (eqb (x .code) Error) x (λ u. judgeOf s slots 0 (stoppedRecord x) (run errorBlock s (x .ends))))
+-- S message, N exit status
+abbrev pub shortError : List Group
+shortError = once (S ∷ N 2 ∷ []) ∷ []
+
+abbrev pub errorGroups : (kind : ℕ) → List Group
+errorGroups k = pick (eqb k 0) portedError (pick (eqb k 1) tracedError shortError)
+
+unfoldable pub errorBlock : (kind : ℕ) → Tree
+errorBlock k = layout (version 0 0) (errorGroups k)
+
+abbrev pub ifError : (kind : ℕ) → (is : Bool) → Stopped → (Unit {0} → Result Ended) → Result Answer
+ifError k true x block = onward (block tt) (λ e. stderrAnswer k (e .ends) (e .found))
+ifError k false x block = stderrAnswer 0 (x .ends) (stoppedRecord x)
+
+unfoldable pub readStderrWithError : (kind : ℕ) → List ℕ → (slots : ℕ) → Result Answer
+readStderrWithError k s slots =
+    onward (stderrLoop s) (λ x. ifError k (eqb (x .code) Error) x (λ u. judgeOf s slots 0 (stoppedRecord x) (run (errorBlock k) s (x .ends))))
 
 -- the pieces whose strings are kept
-unfoldable pub errorPieces : List ℕ → Result Stopped → Pieces
-errorPieces s (ok x) = pick (eqb (x .code) Error) (run errorBlock s (x .ends)) (end (x .ends))
-errorPieces s (refused which place stream) = fault which place
+unfoldable pub errorPieces : (kind : ℕ) → List ℕ → Result Stopped → Pieces
+errorPieces k s (ok x) = pick (eqb (x .code) Error) (run (errorBlock k) s (x .ends)) (end (x .ends))
+errorPieces k s (refused which place stream) = fault which place

@@ -43,7 +43,10 @@ pub const NO_ARGUMENTS: u64 = 13;
 // The call writer: what no field takes is not 0 or empty, or a flag is above 1.
 pub const NOT_OF_SHAPE: u64 = 14;
 
-// How a call's arguments are read: as nix-wire does, or as the daemon's published source has them.
+// A position in an error block is not 0.
+pub const NONZERO_POSITION: u64 = 15;
+
+// How arguments and error blocks are read: as nix-wire does, or as the daemon's published source has them.
 pub enum Mode {
     Ported,
     Published,

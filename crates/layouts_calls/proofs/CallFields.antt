@@ -13,7 +13,7 @@ use native.Mathlib.Nat.{add-zero, zero-add}
 use Rattle.text.proofs.Meaning.{text-is}
 use Rattle.layouts.specs.declared.Record.{Record}
 use Rattle.layouts.specs.Primitive.{pick, numberBytes, limit, padOf, Version, Result, ok}
-use Rattle.layouts.specs.Shape.{Target, dropped, asNumber, asFlag, asCount, asPresence, kept, What, num, str, set, pairs, framed, maybe, typed, Gated, Tree, ask, say, frames, strings, units, field, there, what, gated, fields, truth}
+use Rattle.layouts.specs.Shape.{Target, dropped, asNumber, asFlag, asCount, asPresence, kept, What, num, str, set, pairs, framed, maybe, typed, position, Gated, Tree, ask, say, frames, strings, units, field, there, what, gated, fields, truth}
 use Rattle.layouts.specs.Pieces.{Pieces, number, text, chunk}
 use Rattle.layouts.specs.Record.{withEntries, withPayload, noted, entered}
 use Rattle.layouts.specs.Judge.{Ended, notText, textTaken, chunkTaken, judgeOf, entriesOf, payloadOf}
@@ -110,6 +110,7 @@ fieldPieces ns p cs (pairs m t) at q = number t at (valueFor ns t) (textsThen (a
 fieldPieces ns p cs framed at q = chunksThen (length p) at p q
 fieldPieces ns p cs maybe at q = q
 fieldPieces ns p cs typed at q = q
+fieldPieces ns p cs position at q = q
 
 module _ (ns p : List ℕ) (small : (j : ℕ) → getD ns j 0 < 18446744073709551616) where
   value-small : (t : Target) → valueFor ns t < 18446744073709551616

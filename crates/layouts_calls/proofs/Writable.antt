@@ -8,7 +8,7 @@ use borrow.Author.Tests.{not-true, eqb-true}
 use Rattle.layouts.specs.declared.Mode.{Mode}
 use Rattle.layouts.specs.declared.Mode.the-variants.{Ported, Published}
 use Rattle.layouts.specs.Primitive.{pick, Version, version, atLeast}
-use Rattle.layouts.specs.Shape.{Target, dropped, asNumber, asFlag, asCount, asPresence, Role, passed, checked, kept, What, num, str, set, pairs, framed, maybe, typed, Gated, always, from, below, between, there, what}
+use Rattle.layouts.specs.Shape.{Target, dropped, asNumber, asFlag, asCount, asPresence, Role, passed, checked, kept, What, num, str, set, pairs, framed, maybe, typed, position, Gated, always, from, below, between, there, what}
 use Rattle.layouts.specs.Record.{isKept}
 use Rattle.layouts.specs.Operations.{Operation, operations, published, rowsIn, row, find}
 use Rattle.layouts.specs.Calls.{Context, chosen}
@@ -58,6 +58,7 @@ isWritable (pairs m t) = isKept m && inRecord t
 isWritable framed = true
 isWritable maybe = false
 isWritable typed = false
+isWritable position = false
 
 kept-by : (m : Role) → isKept m ≡ true → m ≡ kept
 kept-by passed e = absurd (never-true e)
@@ -72,6 +73,7 @@ writable-by (pairs m t) e = let a = and-true (isKept m) (inRecord t) e in rw (ke
 writable-by framed e = framed-data
 writable-by maybe e = absurd (never-true e)
 writable-by typed e = absurd (never-true e)
+writable-by position e = absurd (never-true e)
 
 -- ---- fields: the place of a number is no other field's, and framed data is last
 -- is this place one that a target takes? one of the fields?

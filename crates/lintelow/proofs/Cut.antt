@@ -1,8 +1,9 @@
 -- W-212, of what the exported functions return and leave: a call returns 0, so its stream was passed to the end that the block tells, and it is made again on another stream,
 -- with all else the same. On a shorter beginning of the bytes up to the end it returns 1, the block tells which stream is cut, and lent memory stays. Where only what stands
 -- behind the end is other, it returns 0 and leaves the same block and the same rooms. Each theorem is about `Post`, the contract as Rattle reads it off the source. There is
--- none of the stderr loop, whose messages may be cut where they end with neither Last nor Error, nor of `lintelow_peek_u64`, which passes nothing.
-use Prim.Native.Nat.{ℕ, _/_}
+-- none of the stderr loop, whose messages may be cut where they end with neither Last nor Error, but one of the error block behind messages that end in Error; nor of
+-- `lintelow_peek_u64`, which passes nothing.
+use Prim.Native.Nat.{ℕ, _/_, _≤_}
 use mathlib.Core.Path.{_≡_, refl, sym, _∙_, ap}
 use mathlib.Core.List.{List}
 use native.Mathlib.Omega.{arith}
@@ -11,17 +12,19 @@ use contract.Lifetimes.{Lfts}
 use borrow.Fn.Kinds.{Dens, endedOf}
 use denote.Triple.Clauses.{AtExit}
 use denote.Ref.{now}
-use Rattle.layouts.specs.Primitive.{Version, version, Result}
+use Rattle.layouts.specs.Primitive.{Version, version, Result, ok}
 use Rattle.layouts.specs.Shape.{Tree, num, asNumber, asCount, str, passed, kept, set, framed}
-use Rattle.layouts.specs.Pieces.{run}
+use Rattle.layouts.specs.Pieces.{Pieces, run}
 use Rattle.layouts.specs.Judge.{Ended, entriesOf, payloadOf}
 use Rattle.layouts.specs.Calls as L
 use Rattle.layouts.specs.Calls.{argumentsTree, skippedTree, replyTree, readOpArgs, readDaemonResult, skipOpArgs, skipDaemonResult, readNumber, readU32, skipString, readString, skipStringSet, skipFramed}
+use Rattle.layouts.specs.Stderr.{Stopped, Error, stderrLoop, errorPieces, readStderrWithError}
 use Rattle.layouts.specs.Handshake.{heardEntries}
-use Rattle.layouts.specs.Cut.{CutOrLonger, WholeOnly}
+use Rattle.layouts.specs.Cut.{CutBehind, SameTo, CutOrLonger, WholeOnly}
 use Rattle.layouts.proofs.Cut as W
 use Rattle.layouts.proofs.Cut.{seen}
 use Rattle.layouts.proofs.CutTalk.{handshake-client-whole, handshake-daemon-whole, daemon-handshake-whole}
+use Rattle.layouts.proofs.CutError.{error-numbered, error-within, error-cut, error-longer}
 use Rattle.layouts.proofs.Talk.{handshake-numbered, daemon-handshake-numbered}
 use Rattle.layouts.proofs.Success.{Numbered, onward-numbered, read-reply-numbered, skip-reply-numbered, read-arguments-numbered, skip-arguments-numbered, skip-field-numbered, read-field-numbered, skip-framed-numbered, read-u32-numbered}
 use Rattle.writers_output.specs.Numbers.{bytesOf}
@@ -33,11 +36,11 @@ use Rattle.protocol.proofs.Demands.{opOf, versionOf, streamOf, same-as}
 use Rattle.lintelow_answers.specs.Answers.{ended, passedTo, stringRead}
 use Rattle.lintelow_answers.specs.Skips.{stringSkipped, resultSkipped}
 use Rattle.lintelow_answers.specs.Block.{numberOf, blockAfter}
-use Rattle.lintelow.specs.Calls.{Called, ReadCalled, readCalled, handshakeCalled, daemonCalled, setCalled, framedCalled}
+use Rattle.lintelow.specs.Calls.{Called, ReadCalled, readCalled, errorCalled, handshakeCalled, daemonCalled, setCalled, framedCalled}
 use Rattle.lintelow.specs.Demands.{endTold, end2Told, Lendable, Tells}
 use Rattle.lintelow.specs.Cut.{TellsCut}
-use Rattle.lintelow.proofs.Demands.{contextAt, entriesAt, payloadAt, blockAt, skipBlock, roomOf, roomBlock, daemonRoom, daemonBlock}
-use Rattle.lintelow.proofs.CutLaws.{Telling, exported-cut, exported-longer, Leaves, room-whole}
+use Rattle.lintelow.proofs.Demands.{contextAt, errorAt, errorBlock, entriesAt, payloadAt, blockAt, skipBlock, roomOf, roomBlock, daemonRoom, daemonBlock}
+use Rattle.lintelow.proofs.CutLaws.{Telling, succeeded, end-told, cut-told, longer-told, exported-cut, exported-longer, Leaves, room-whole}
 use Rattle.lintelow.proofs.lintelow_read_op_args.Reads as read-op-args
 use Rattle.lintelow.proofs.lintelow_read_op_args.Kinds as read-op-args-kinds
 use Rattle.lintelow.proofs.lintelow_read_daemon_result.Reads as read-daemon-result
@@ -46,6 +49,8 @@ use Rattle.lintelow.proofs.lintelow_skip_op_args.Reads as skip-op-args
 use Rattle.lintelow.proofs.lintelow_skip_op_args.Kinds as skip-op-args-kinds
 use Rattle.lintelow.proofs.lintelow_skip_daemon_result.Reads as skip-daemon-result
 use Rattle.lintelow.proofs.lintelow_skip_daemon_result.Kinds as skip-daemon-result-kinds
+use Rattle.lintelow.proofs.lintelow_read_stderr_with_error.Reads as read-stderr-with-error
+use Rattle.lintelow.proofs.lintelow_read_stderr_with_error.Kinds as read-stderr-with-error-kinds
 use Rattle.lintelow.proofs.lintelow_parse_handshake.Reads as parse-handshake
 use Rattle.lintelow.proofs.lintelow_parse_handshake.Kinds as parse-handshake-kinds
 use Rattle.lintelow.proofs.lintelow_parse_daemon_handshake.Reads as parse-daemon-handshake
@@ -257,6 +262,54 @@ module _ (κs : Lfts 3) (a : Dens κs read-string-set-kinds.ps) (r : ℕ) (x : A
       ap (λ (n : ℕ). framedCalled (now (a′ .0)) n (roomOf a′) (roomBlock a′)) place ∙ same-lent (framedCalled (now (a′ .0)) at) room b in
       room-whole (W.read-framed-whole at size) (λ s. read-field-numbered s at framed 0 size) (λ o. answerAs (ended o)) ended-tells (λ k. k .1)
       (roomBlock a) (roomOf a) (roomOf a′) (now (a .0)) (now (a′ .0)) r r′ (roomBlock x) (roomBlock x′) (roomOf x) (roomOf x′) p (leaves same q) room zero fits
+
+-- ---- an error block: the messages before it end in Error at a place, and the second stream has them. The same block is asked for
+module _ (κs : Lfts 3) (a : Dens κs read-stderr-with-error-kinds.ps) (r : ℕ) (x : AtExit (endedOf 3 read-stderr-with-error-kinds.ps read-stderr-with-error-kinds.r) κs)
+    (p : read-stderr-with-error.Post κs a r x) (κs′ : Lfts 3) (a′ : Dens κs′ read-stderr-with-error-kinds.ps) (r′ : ℕ)
+    (x′ : AtExit (endedOf 3 read-stderr-with-error-kinds.ps read-stderr-with-error-kinds.r) κs′) (q : read-stderr-with-error.Post κs′ a′ r′ x′) (asked : errorAt a′ ≡ errorAt a)
+    (room : entriesAt a′ ≡ entriesAt a) (b : errorBlock a′ ≡ errorBlock a) (zero : r ≡ 0) (fits : Lendable (streamOf a)) (y : Stopped) (stops : stderrLoop (streamOf a) ≡ ok y)
+    (error : y .code ≡ Error) where
+  abbrev s : List ℕ
+  s = streamOf a
+
+  abbrev s′ : List ℕ
+  s′ = streamOf a′
+
+  abbrev slots : ℕ
+  slots = length (entriesAt a) / 16
+
+  again : Leaves r′ (errorBlock x′) (entriesAt x′) (errorCalled (errorAt a) s′ (entriesAt a) (errorBlock a))
+  again = leaves (ap (λ (k : ℕ). errorCalled k s′ (entriesAt a′) (errorBlock a′)) asked ∙ same-lent (errorCalled (errorAt a) s′) room b) q
+
+  abbrev said : List ℕ → Result L.Answer
+  said u = readStderrWithError (errorAt a) u slots
+
+  abbrev keeps : List ℕ → Pieces
+  keeps u = errorPieces (errorAt a) u (stderrLoop u)
+
+  numbered : Numbered (said s)
+  numbered = error-numbered (errorAt a) slots s y stops error
+
+  abbrev done : (200 ≤ length (errorBlock a)) × (z : L.Answer) × (said s ≡ ok z)
+  done = succeeded said (λ z. z .ends) keeps (λ k o. answerAs o) answer-tells (errorBlock a) s s′ r r′ (errorBlock x) (errorBlock x′) (p .0, p .1 .0) (again .0, again .1 .0) zero numbered
+
+  ends-there : endTold (errorBlock x) ≡ done .1 .ends
+  ends-there =
+      end-told said (λ z. z .ends) keeps (λ k o. answerAs o) answer-tells (errorBlock a) s s′ r r′ (errorBlock x) (errorBlock x′) (p .0, p .1 .0) (again .0, again .1 .0) zero numbered
+      (error-within (errorAt a) slots s y stops error (done .1) (done .2)) fits
+
+  pub read-stderr-with-error-cut : CutBehind (y .ends) (endTold (errorBlock x)) s s′ → TellsCut 0 (errorBlock a) r′ (errorBlock x′) × (entriesAt x′ ≡ entriesAt a′)
+  read-stderr-with-error-cut c =
+      let z = cut-told said (λ z. z .ends) keeps (λ k o. answerAs o) answer-tells (errorBlock a) s s′ r r′ (errorBlock x) (errorBlock x′) (p .0, p .1 .0) (again .0, again .1 .0) zero numbered
+      0 (error-cut (errorAt a) slots s y stops error (done .1) (done .2) s′ (rw ends-there at c)) in
+      (z .0, again .1 .1 ∙ z .1 _ (entriesAt a) ∙ sym room)
+
+  pub read-stderr-with-error-longer : SameTo (endTold (errorBlock x)) s s′ → ((r′ ≡ r) × (errorBlock x′ ≡ errorBlock x)) × (entriesAt x′ ≡ entriesAt x)
+  read-stderr-with-error-longer c =
+      let l = error-longer (errorAt a) slots s y stops error (done .1) (done .2) s′ (rw ends-there at c) in
+      let z = longer-told said (λ z. z .ends) keeps (λ k o. answerAs o) answer-tells (errorBlock a) s s′ r r′ (errorBlock x) (errorBlock x′) (p .0, p .1 .0) (again .0, again .1 .0) zero
+      numbered (l .0) (l .1) in
+      (z .0, again .1 .1 ∙ z .1 (λ k. bytesOf (entriesOf k)) (entriesAt a) ∙ sym (p .1 .1))
 
 -- ---- handshakes: both sides
 module _ (κs : Lfts 4) (a : Dens κs parse-handshake-kinds.ps) (r : ℕ) (x : AtExit (endedOf 4 parse-handshake-kinds.ps parse-handshake-kinds.r) κs) (p : parse-handshake.Post κs a r x)

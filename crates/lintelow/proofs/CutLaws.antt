@@ -9,7 +9,8 @@ use borrow.Author.Tests.{le-leb, leb-true}
 use native.Mathlib.Omega.{arith}
 use Rattle.layouts.specs.Primitive.{pick, cutShort, outputFull, Result, ok, refused}
 use Rattle.layouts.specs.Judge.{lentAfter}
-use Rattle.layouts.specs.Cut.{CutBefore, SameTo, CutOrLonger, WholeOnly}
+use Rattle.layouts.specs.Refusal.{refusedBy}
+use Rattle.layouts.specs.Cut.{CutBefore, SameTo, CutOrLonger, RefusedAsCut, WholeOnly}
 use Rattle.layouts.proofs.Success.{Numbered}
 use Rattle.walk_judge.specs.declared.Answer.{Answer}
 use Rattle.walk_judge.specs.Judged.{answerAs}
@@ -30,13 +31,13 @@ pub record Telling {A K : Type 0} (i : ℕ) (ends : A → ℕ) (f : K → Result
   pub long : (k : K) (y : A) → i < length (numbersOf (f k (ok y)))
   pub end : (k : K) (y : A) → getD (numbersOf (f k (ok y))) i 0 ≡ ends y
 
-module _ {A K : Type 0} {said : List ℕ → Result A} {ends : A → ℕ} {stream : ℕ} {keeps : List ℕ → K} (w : WholeOnly said ends stream keeps)
-    (numbered : (s : List ℕ) → Numbered (said s)) {i : ℕ} (f : K → Result A → Answer) (t : Telling i ends f) (block s s' : List ℕ) (r r' : ℕ) (after after' : List ℕ)
-    (p : Tells (f (keeps s) (said s)) block r after) (q : Tells (f (keeps s') (said s')) block r' after') (zero : r ≡ 0) (fits : Lendable s) where
+-- it is made on s, and again on s'
+module _ {A K : Type 0} (said : List ℕ → Result A) (ends : A → ℕ) (keeps : List ℕ → K) {i : ℕ} (f : K → Result A → Answer) (t : Telling i ends f) (block s s' : List ℕ) (r r' : ℕ)
+    (after after' : List ℕ) (p : Tells (f (keeps s) (said s)) block r after) (q : Tells (f (keeps s') (said s')) block r' after') (zero : r ≡ 0) (numbered : Numbered (said s)) where
   -- the block was long enough, and the call succeeded
-  succeeded : (200 ≤ length block) × (y : A) × (said s ≡ ok y)
+  pub succeeded : (200 ≤ length block) × (y : A) × (said s ≡ ok y)
   unfolding numberPut
-  succeeded = by (leb 200 (length block)) refl (said s) refl (numbered s) (sym (p .0) ∙ zero)
+  succeeded = by (leb 200 (length block)) refl (said s) refl numbered (sym (p .0) ∙ zero)
     where
       by : (b : Bool) → leb 200 (length block) ≡ b → (o : Result A) → said s ≡ o → Numbered o → pick b (getD (numbersOf (f (keeps s) o)) 0 0) outputFull ≡ 0
           → (200 ≤ length block) × (y : A) × (said s ≡ ok y)
@@ -46,31 +47,47 @@ module _ {A K : Type 0} {said : List ℕ → Result A} {ends : A → ℕ} {strea
       by true e (ok y) g n z = (leb-true 200 (length block) e, y, g)
 
   -- and the block tells the end
-  end-told : inBlock i after ≡ ends (succeeded .1)
-  end-told =
+  pub end-told : ends (succeeded .1) ≤ length s → Lendable s → inBlock i after ≡ ends (succeeded .1)
+  end-told h fits =
       let y = succeeded .1 in
-      let h = w .within s y (succeeded .2) in
       told-in block after (numbersOf (f (keeps s) (ok y))) i (ends y) (p .1 ∙ ap (λ (o : Result A). blockAfter block (f (keeps s) o)) (succeeded .2)) (succeeded .0)
       (t .long (keeps s) y) (t .end (keeps s) y) (omega arith)
 
-  pub exported-cut : CutBefore (inBlock i after) s s' → TellsCut stream block r' after' × ((new lent : List ℕ) → lentAfter (guarded block (said s')) new lent ≡ lent)
+  pub cut-told : (stream : ℕ) → RefusedAsCut refusedBy stream (said s')
+      → TellsCut stream block r' after' × ((new lent : List ℕ) → lentAfter (guarded block (said s')) new lent ≡ lent)
   unfolding numberPut
-  exported-cut c =
-      let z = w .cut s s' (succeeded .1) (succeeded .2) (rw end-told at c) in
+  cut-told stream z =
       let g : f (keeps s') (said s') ≡ answerAs (refused cutShort (z .0) stream) = ap (f (keeps s')) (z .1) ∙ t .refuses (keeps s') cutShort (z .0) stream in (
         (q .0 ∙ ap (numberOf block) g ∙ rw (le-leb 200 (length block) (succeeded .0)), (z .0, q .1 ∙ ap (blockAfter block) g)),
         λ new lent. ap (λ (o : Result A). lentAfter o new lent) (guarded-long block (said s') (succeeded .0) ∙ z .1),
       )
 
+  pub longer-told : said s' ≡ ok (succeeded .1) → keeps s' ≡ keeps s
+      → ((r' ≡ r) × (after' ≡ after)) × ((g : K → List ℕ) (lent : List ℕ) → lentAfter (guarded block (said s')) (g (keeps s')) lent ≡ lentAfter (guarded block (said s)) (g (keeps s)) lent)
+  longer-told z e =
+      let same = z ∙ sym (succeeded .2) in
+      let g : f (keeps s') (said s') ≡ f (keeps s) (said s) = ap (f (keeps s')) same ∙ ap (λ (k : K). f k (said s)) e in (
+        (q .0 ∙ ap (numberOf block) g ∙ sym (p .0), q .1 ∙ ap (blockAfter block) g ∙ sym (p .1)),
+        λ g lent. ap (λ (o : Result A). lentAfter (guarded block o) (g (keeps s')) lent) same ∙ ap (λ (k : K). lentAfter (guarded block (said s)) (g k) lent) e,
+      )
+
+module _ {A K : Type 0} {said : List ℕ → Result A} {ends : A → ℕ} {stream : ℕ} {keeps : List ℕ → K} (w : WholeOnly said ends stream keeps)
+    (numbered : (s : List ℕ) → Numbered (said s)) {i : ℕ} (f : K → Result A → Answer) (t : Telling i ends f) (block s s' : List ℕ) (r r' : ℕ) (after after' : List ℕ)
+    (p : Tells (f (keeps s) (said s)) block r after) (q : Tells (f (keeps s') (said s')) block r' after') (zero : r ≡ 0) (fits : Lendable s) where
+  abbrev done : (200 ≤ length block) × (y : A) × (said s ≡ ok y)
+  done = succeeded said ends keeps f t block s s' r r' after after' p q zero (numbered s)
+
+  ends-there : inBlock i after ≡ ends (done .1)
+  ends-there = end-told said ends keeps f t block s s' r r' after after' p q zero (numbered s) (w .within s (done .1) (done .2)) fits
+
+  pub exported-cut : CutBefore (inBlock i after) s s' → TellsCut stream block r' after' × ((new lent : List ℕ) → lentAfter (guarded block (said s')) new lent ≡ lent)
+  exported-cut c = cut-told said ends keeps f t block s s' r r' after after' p q zero (numbered s) stream (w .cut s s' (done .1) (done .2) (rw ends-there at c))
+
   pub exported-longer : SameTo (inBlock i after) s s'
       → ((r' ≡ r) × (after' ≡ after)) × ((g : K → List ℕ) (lent : List ℕ) → lentAfter (guarded block (said s')) (g (keeps s')) lent ≡ lentAfter (guarded block (said s)) (g (keeps s)) lent)
   exported-longer c =
-      let z = w .longer s s' (succeeded .1) (succeeded .2) (rw end-told at c) in
-      let same = z .0 ∙ sym (succeeded .2) in
-      let g : f (keeps s') (said s') ≡ f (keeps s) (said s) = ap (f (keeps s')) same ∙ ap (λ (k : K). f k (said s)) (z .1) in (
-        (q .0 ∙ ap (numberOf block) g ∙ sym (p .0), q .1 ∙ ap (blockAfter block) g ∙ sym (p .1)),
-        λ g lent. ap (λ (o : Result A). lentAfter (guarded block o) (g (keeps s')) lent) same ∙ ap (λ (k : K). lentAfter (guarded block (said s)) (g k) lent) (z .1),
-      )
+      let z = w .longer s s' (done .1) (done .2) (rw ends-there at c) in
+      longer-told said ends keeps f t block s s' r r' after after' p q zero (numbered s) (z .0) (z .1)
 
 -- a call that is lent one room: new is what it puts there. The second call is lent lent', which is the same
 abbrev pub Leaves : (number : ℕ) → (block room : List ℕ) → Called → Type 0

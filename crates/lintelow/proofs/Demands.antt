@@ -42,6 +42,7 @@ use Rattle.handshake.proofs.Room.{handshake-counted, daemon-counted}
 use Rattle.lintelow_answers.specs.Answers.{modeOf, ended}
 use Rattle.lintelow_answers.specs.Skips.{resultSkipped}
 use Rattle.lintelow_answers.specs.Block.{guarded, numberOf, blockAfter}
+use Rattle.lintelow.specs.Calls.{errorAsked}
 use Rattle.lintelow.specs.Demands.{endTold, entriesTold, payloadTold, Lendable, Tells}
 use Rattle.lintelow.proofs.Told.{room-kept, entries-only, payload-only, reply-passed, read-fills, view-in-bytes, entries-small}
 use Rattle.lintelow.proofs.lintelow_read_op_args.Reads as read-op-args
@@ -81,14 +82,14 @@ module _ {A B C D E : Type 0} where
 abbrev pub contextAt : {A : Type 0} → ℕ × Lent A → Context
 contextAt a = record { mode = modeOf (a .0); op = opOf (a .1); spoken = versionOf (a .1) }
 
--- the other calls: one room, and the block behind it. Before it stand the stream; both streams, or a stream and a place; a version and a stream
-module _ {A B : Type 0} where
-  abbrev errorRoom : A × (RefT (List ℕ) × B) → List ℕ
-  errorRoom a = now (a .1 .0)
+-- the call on an error has a mode in place of the operation
+abbrev pub errorAt : {A : Type 0} → Lent A → ℕ
+errorAt a = errorAsked (a .0) (a .1 .0) (a .1 .1 .0)
 
-  abbrev errorBlock : A × (RefT (List ℕ) × (RefT (List ℕ) × B)) → List ℕ
-  errorBlock a = now (a .1 .1 .0)
+abbrev pub errorBlock : {A B C D E : Type 0} → A × (B × (C × (D × (RefT (List ℕ) × (RefT (List ℕ) × E))))) → List ℕ
+errorBlock a = now (a .1 .1 .1 .1 .1 .0)
 
+-- the other calls: one room, and the block behind it. Before it stand both streams, or a stream and a place; a version and a stream
 module _ {A B C : Type 0} where
   abbrev pub roomOf : A × (B × (RefT (List ℕ) × C)) → List ℕ
   roomOf a = now (a .1 .1 .0)
@@ -164,17 +165,18 @@ module _ (κs : Lfts 4) (a : Dens κs read-daemon-result-kinds.ps) (r : ℕ) (x 
 module _ (κs : Lfts 3) (a : Dens κs read-stderr-with-error-kinds.ps) (r : ℕ) (x : AtExit (endedOf 3 read-stderr-with-error-kinds.ps read-stderr-with-error-kinds.r) κs)
     (p : read-stderr-with-error.Post κs a r x) where
   abbrev errorSaid : Result L.Answer
-  errorSaid = readStderrWithError (now (a .0)) (length (errorRoom a) / 16)
+  errorSaid = readStderrWithError (errorAt a) (streamOf a) (length (entriesAt a) / 16)
 
-  pub stderr-refused : 0 < r → errorRoom x ≡ errorRoom a
-  stderr-refused = room-kept answerAs (λ y. refl) (errorBlock a) errorSaid r (errorBlock x) (p .0, p .1 .0) (errorRoom a) (errorRoom x) _ (p .1 .1)
+  pub stderr-refused : 0 < r → entriesAt x ≡ entriesAt a
+  stderr-refused = room-kept answerAs (λ y. refl) (errorBlock a) errorSaid r (errorBlock x) (p .0, p .1 .0) (entriesAt a) (entriesAt x) _ (p .1 .1)
 
-  pub stderr-written : Lendable (errorRoom a) → drop (16 * entriesTold (errorBlock x)) (errorRoom x) ≡ drop (16 * entriesTold (errorBlock x)) (errorRoom a)
+  pub stderr-written : Lendable (entriesAt a) → drop (16 * entriesTold (errorBlock x)) (entriesAt x) ≡ drop (16 * entriesTold (errorBlock x)) (entriesAt a)
   stderr-written l =
-      let s = now (a .0) in
-      let n = length (errorRoom a) / 16 in
-      entries-only answerAs (λ y. refl) (errorBlock a) errorSaid r (errorBlock x) (p .0, p .1 .0) (errorRoom a) (errorRoom x) (entriesOf (errorPieces s (stderrLoop s))) (p .1 .1) l
-      (λ y w. let c = error-counted s n y w in let f = with-error-fits s n y w in (c, omega arith))
+      let k = errorAt a in
+      let s = streamOf a in
+      let n = length (entriesAt a) / 16 in
+      entries-only answerAs (λ y. refl) (errorBlock a) errorSaid r (errorBlock x) (p .0, p .1 .0) (entriesAt a) (entriesAt x) (entriesOf (errorPieces k s (stderrLoop s))) (p .1 .1) l
+      (λ y w. let c = error-counted k s n y w in let f = with-error-fits k s n y w in (c, omega arith))
 
 -- lintelow_parse_handshake
 module _ (κs : Lfts 4) (a : Dens κs parse-handshake-kinds.ps) (r : ℕ) (x : AtExit (endedOf 4 parse-handshake-kinds.ps parse-handshake-kinds.r) κs)

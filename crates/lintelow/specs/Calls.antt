@@ -2,13 +2,13 @@
 use Prim.Native.Nat.{ℕ, _/_}
 use mathlib.Core.List.{List, []}
 use lib.ListN.{length}
-use Rattle.layouts.specs.Primitive.{Version, Result}
+use Rattle.layouts.specs.Primitive.{Version, version, Result}
 use Rattle.layouts.specs.Pieces.{run}
 use Rattle.layouts.specs.Record.{blank}
 use Rattle.layouts.specs.Judge.{entriesOf, payloadOf, lentAfter}
 use Rattle.layouts.specs.Calls as L
 use Rattle.layouts.specs.Calls.{Context, context, argumentsTree, replyTree, readOpArgs, readDaemonResult, readStringSet, readFramed}
-use Rattle.layouts.specs.Stderr.{stderrLoop, readStderrWithError, errorPieces}
+use Rattle.layouts.specs.Stderr.{stderrLoop, errorKind, readStderrWithError, errorPieces}
 use Rattle.layouts.specs.Handshake.{hear, heardEntries, handshake, daemonHandshake, parseHandshake, parseDaemonHandshake}
 use Rattle.layouts.specs.Writers.{textsOf, writeStringSet, outputOf}
 use Rattle.writers_output.specs.Numbers.{bytesOf}
@@ -50,6 +50,10 @@ readCalled block o es ps entries payload =
 abbrev pub asked : (mode op major minor : ℕ) → Context
 asked mode op major minor = context (modeOf mode) op major minor
 
+-- which error block, by the same
+abbrev pub errorAsked : (mode major minor : ℕ) → ℕ
+errorAsked mode major minor = errorKind (modeOf mode) (version major minor)
+
 -- ---- the calls. Sixteen bytes make a slot
 abbrev pub argumentsCalled : Context → (s entries payload block : List ℕ) → ReadCalled
 argumentsCalled c s entries payload block =
@@ -61,8 +65,8 @@ replyCalled op v s entries payload block =
     readCalled block (readDaemonResult op v s (length entries / 16) (length payload))
     (bytesOf (entriesOf (run (replyTree op v) s 0))) (payloadOf s (run (replyTree op v) s 0)) entries payload
 
-abbrev pub errorCalled : (s entries block : List ℕ) → Called
-errorCalled s entries block = called block answerAs (readStderrWithError s (length entries / 16)) (bytesOf (entriesOf (errorPieces s (stderrLoop s)))) entries
+abbrev pub errorCalled : (kind : ℕ) → (s entries block : List ℕ) → Called
+errorCalled k s entries block = called block answerAs (readStderrWithError k s (length entries / 16)) (bytesOf (entriesOf (errorPieces k s (stderrLoop s)))) entries
 
 abbrev pub handshakeCalled : (client daemon entries block : List ℕ) → Called
 handshakeCalled client daemon entries block =

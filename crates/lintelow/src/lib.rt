@@ -7,7 +7,7 @@ ghost use Rattle.layouts.specs.Stderr.{readStderrLoop};
 ghost use Rattle.walk_judge.specs.Judged.{answerAs};
 ghost use Rattle.lintelow_answers.specs.Skips.{argumentsSkipped, resultSkipped};
 ghost use Rattle.lintelow_answers.specs.Block.{numberOf, blockAfter};
-ghost use Rattle.lintelow.specs.Calls.{asked, argumentsCalled, replyCalled, errorCalled, handshakeCalled, daemonCalled};
+ghost use Rattle.lintelow.specs.Calls.{asked, errorAsked, argumentsCalled, replyCalled, errorCalled, handshakeCalled, daemonCalled};
 
 pub mod reads;
 pub mod writes;
@@ -123,18 +123,27 @@ pub extern "C" fn lintelow_read_stderr_loop(s: &[u8], block: &mut [u8]) -> u64
 
 #[no_mangle]
 pub extern "C" fn lintelow_read_stderr_with_error(
+    mode: u8,
+    major: u16,
+    minor: u8,
     s: &[u8],
     entries: &mut [u8],
     block: &mut [u8],
 ) -> u64
-    ensures number { λ r. ⌜ r ≡ errorCalled (now (s .entry)) (now (entries .entry)) (now (block .entry)) .number ⌝ }
-    ensures block { λ r. ⌜ now (block .exit) ≡ errorCalled (now (s .entry)) (now (entries .entry)) (now (block .entry)) .block ⌝ }
-    ensures entries { λ r. ⌜ now (entries .exit) ≡ errorCalled (now (s .entry)) (now (entries .entry)) (now (block .entry)) .room ⌝ }
+    ensures number { λ r. ⌜ r ≡ errorCalled (errorAsked mode major minor) (now (s .entry)) (now (entries .entry)) (now (block .entry)) .number ⌝ }
+    ensures block { λ r. ⌜ now (block .exit) ≡ errorCalled (errorAsked mode major minor) (now (s .entry)) (now (entries .entry)) (now (block .entry)) .block ⌝ }
+    ensures entries { λ r. ⌜ now (entries .exit) ≡ errorCalled (errorAsked mode major minor) (now (s .entry)) (now (entries .entry)) (now (block .entry)) .room ⌝ }
 {
     if block.len() < lintelow_answers::BLOCK {
         return layouts::OUTPUT_FULL;
     }
-    let told = stderr::read_stderr_with_error_bytes(s, entries);
+    let told = stderr::read_stderr_with_error_bytes(
+        lintelow_answers::mode(mode),
+        major,
+        minor,
+        s,
+        entries,
+    );
     lintelow_answers::put(block, told)
 }
 

@@ -63,7 +63,7 @@ fn conversation(c: Call, a: &[u8], b: &[u8], entries: &mut [u8], block: &mut [u8
     let number = c.number;
     match number {
         5 => lintelow::lintelow_read_stderr_loop(a, block),
-        6 => lintelow::lintelow_read_stderr_with_error(a, entries, block),
+        6 => lintelow::lintelow_read_stderr_with_error(c.mode, c.major, c.minor, a, entries, block),
         7 => lintelow::lintelow_parse_handshake(a, b, entries, block),
         _ => lintelow::lintelow_parse_daemon_handshake(c.major, c.minor, b, entries, block),
     }

@@ -1,6 +1,6 @@
 // Reads and skips the arguments and the reply of every operation number from 0 to 48 at versions 1.9 to 1.38, 0.255, 2.0 and 65535.255, over two streams:
 // one of zeros (empty strings and sets, false flags), and one whose every number is 1; then the arguments that published mode has otherwise. Each line says from
-// which version on the answer is what. Then the stderr loop and both handshakes, with entries in memory of numbers: each line ends with all that was lent, sevens
+// which version on the answer is what. Then the stderr loop, error blocks and both handshakes, with entries in memory of numbers: each line ends with all that was lent, sevens
 // before the call.
 use layouts::Mode;
 use protocol::Arguments;
@@ -242,7 +242,9 @@ fn told(a: Answer, lent: &[u64]) {
             numbers(&[r.which, r.place as u64, r.stream]);
         }
         Outcome::Fine => {
-            say(b"ends");
+            say(b"kind");
+            numbers(&[a.kind]);
+            say(b" ends");
             numbers(&[a.ends as u64, a.ends2 as u64]);
             say(b" numbers");
             numbers(&found.numbers);
@@ -257,14 +259,18 @@ fn told(a: Answer, lent: &[u64]) {
     say(b"\n");
 }
 
-fn stopped(s: &[u8]) {
-    told(stderr::read_stderr_loop(s), &[]);
+fn erred(mode: Mode, minor: u8, s: &[u8]) {
     let mut few = [7u64; 4];
-    let a = stderr::read_stderr_with_error(s, &mut few);
+    let a = stderr::read_stderr_with_error(mode, 1, minor, s, &mut few);
     told(a, &few);
     let mut entries = [7u64; 8];
-    let a = stderr::read_stderr_with_error(s, &mut entries);
+    let a = stderr::read_stderr_with_error(mode, 1, minor, s, &mut entries);
     told(a, &entries);
+}
+
+fn stopped(s: &[u8]) {
+    told(stderr::read_stderr_loop(s), &[]);
+    erred(Mode::Ported, 38, s);
 }
 
 fn greeted(client: &[u8], daemon: &[u8]) {
@@ -277,6 +283,24 @@ fn greeted(client: &[u8], daemon: &[u8]) {
     let mut heard = [7u64; 8];
     let a = handshake::parse_daemon_handshake(1, 38, daemon, &mut heard);
     told(a, &heard);
+}
+
+// In published mode: an error with a trace, and the same bytes as an error below 1.26; positions of the error and of the trace that are not 0.
+fn traces() {
+    let traced =
+        b"ptxc\0\0\0\0\x05\0\0\0\0\0\0\0Error\0\0\0\x01\0\0\0\0\0\0\0\0\0\0\0\0\0\0\0\x04\0\0\0\0\0\0\0damp\0\0\0\0\0\0\0\0\0\0\0\0\x01\0\0\0\0\0\0\0\0\0\0\0\0\0\0\0\x04\0\0\0\0\0\0\0silo\0\0\0\0";
+    erred(Mode::Published, 26, traced);
+    erred(Mode::Published, 25, traced);
+    erred(
+        Mode::Published,
+        26,
+        b"ptxc\0\0\0\0\x05\0\0\0\0\0\0\0Error\0\0\0\x01\0\0\0\0\0\0\0\0\0\0\0\0\0\0\0\x04\0\0\0\0\0\0\0damp\0\0\0\0\x02\0\0\0\0\0\0\0",
+    );
+    erred(
+        Mode::Published,
+        26,
+        b"ptxc\0\0\0\0\x05\0\0\0\0\0\0\0Error\0\0\0\x01\0\0\0\0\0\0\0\0\0\0\0\0\0\0\0\x04\0\0\0\0\0\0\0damp\0\0\0\0\0\0\0\0\0\0\0\0\x01\0\0\0\0\0\0\0\x02\0\0\0\0\0\0\0",
+    );
 }
 
 // A message and the end; an error with a place in a file; one that is cut in the length of its text; version 1.38 with a feature of each side, and the
@@ -331,4 +355,6 @@ fn main() {
     conversations();
     say(b"bad bytes\n");
     bad_bytes();
+    say(b"traces\n");
+    traces();
 }

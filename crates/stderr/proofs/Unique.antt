@@ -17,9 +17,9 @@ pub read-stderr-loop-unique : (κs : Lfts 1) (a : Dens κs read-stderr-loop-kind
 read-stderr-loop-unique κs a r r′ x x′ p q = p ∙ sym q
 
 pub read-stderr-with-error-unique : (κs : Lfts 2) (a : Dens κs read-stderr-with-error-kinds.ps) (r r′ : Answer) (x x′ : AtExit (endedOf 2 read-stderr-with-error-kinds.ps read-stderr-with-error-kinds.r) κs)
-    → read-stderr-with-error.Post κs a r x → read-stderr-with-error.Post κs a r′ x′ → (r ≡ r′) × (now (x .1 .0) ≡ now (x′ .1 .0))
+    → read-stderr-with-error.Post κs a r x → read-stderr-with-error.Post κs a r′ x′ → (r ≡ r′) × (now (x .1 .1 .1 .1 .0) ≡ now (x′ .1 .1 .1 .1 .0))
 read-stderr-with-error-unique κs a r r′ x x′ p q = (p .0 ∙ sym (q .0), p .1 ∙ sym (q .1))
 
 pub read-stderr-with-error-bytes-unique : (κs : Lfts 2) (a : Dens κs read-stderr-with-error-bytes-kinds.ps) (r r′ : Answer) (x x′ : AtExit (endedOf 2 read-stderr-with-error-bytes-kinds.ps read-stderr-with-error-bytes-kinds.r) κs)
-    → read-stderr-with-error-bytes.Post κs a r x → read-stderr-with-error-bytes.Post κs a r′ x′ → (r ≡ r′) × (now (x .1 .0) ≡ now (x′ .1 .0))
+    → read-stderr-with-error-bytes.Post κs a r x → read-stderr-with-error-bytes.Post κs a r′ x′ → (r ≡ r′) × (now (x .1 .1 .1 .1 .0) ≡ now (x′ .1 .1 .1 .1 .0))
 read-stderr-with-error-bytes-unique κs a r r′ x x′ p q = (p .0 ∙ sym (q .0), p .1 ∙ sym (q .1))

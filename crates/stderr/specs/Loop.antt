@@ -33,21 +33,21 @@ abbrev pub recordFor : (messages code : ℕ) → Record
 recordFor messages code = stoppedRecord (record { messages = messages; code = code; ends = 0 })
 
 -- ---- the answer, and the entries afterwards. No payload is there
--- the error block from a place on, with the record so far
-abbrev pub blockFilled : List ℕ → (at : ℕ) → Record → (words bytes : List ℕ) → RoomsFilled Answer
-blockFilled s at sofar words bytes =
-    roomsFilled (λ o. answerAs (onward o (λ e. stderrAnswer (e .ends) (e .found)))) (judgeOf s (slotsIn words bytes) 0 sofar (run errorBlock s at))
-    (entriesOf (run errorBlock s at)) [] words bytes []
+-- the error block of a kind from a place on, with the record so far
+abbrev pub blockFilled : (kind : ℕ) → List ℕ → (at : ℕ) → Record → (words bytes : List ℕ) → RoomsFilled Answer
+blockFilled k s at sofar words bytes =
+    roomsFilled (λ o. answerAs (onward o (λ e. stderrAnswer k (e .ends) (e .found)))) (judgeOf s (slotsIn words bytes) 0 sofar (run (errorBlock k) s at))
+    (entriesOf (run (errorBlock k) s at)) [] words bytes []
 
 -- the loop, and behind Error its block
-abbrev pub errorEntries : List ℕ → List ℕ
-errorEntries s = entriesOf (errorPieces s (stderrLoop s))
+abbrev pub errorEntries : (kind : ℕ) → List ℕ → List ℕ
+errorEntries k s = entriesOf (errorPieces k s (stderrLoop s))
 
-abbrev pub errorFilled : (s words bytes : List ℕ) → RoomsFilled Answer
-errorFilled s words bytes = roomsFilled answerAs (readStderrWithError s (slotsIn words bytes)) (errorEntries s) [] words bytes []
+abbrev pub errorFilled : (kind : ℕ) → (s words bytes : List ℕ) → RoomsFilled Answer
+errorFilled k s words bytes = roomsFilled answerAs (readStderrWithError k s (slotsIn words bytes)) (errorEntries k s) [] words bytes []
 
-abbrev pub errorRead : (s entries : List ℕ) → LentRead Answer
-errorRead s entries = lentRead answerAs (readStderrWithError s (length entries / 2)) (errorEntries s) [] entries []
+abbrev pub errorRead : (kind : ℕ) → (s entries : List ℕ) → LentRead Answer
+errorRead k s entries = lentRead answerAs (readStderrWithError k s (length entries / 2)) (errorEntries k s) [] entries []
 
-abbrev pub errorReadBytes : (s entries : List ℕ) → LentRead Answer
-errorReadBytes s entries = lentRead answerAs (readStderrWithError s (length entries / 16)) (bytesOf (errorEntries s)) [] entries []
+abbrev pub errorReadBytes : (kind : ℕ) → (s entries : List ℕ) → LentRead Answer
+errorReadBytes k s entries = lentRead answerAs (readStderrWithError k s (length entries / 16)) (bytesOf (errorEntries k s)) [] entries []

@@ -1,11 +1,14 @@
 // The stderr loop: the messages that a daemon sends before its reply, with and without the error block. Names are those of nix-wire's protocol.rs.
 ghost use mathlib.Core.Path.{_≡_};
-ghost use Rattle.layouts.specs.Stderr.{messageOf, stderrLoop, stderrAnswer, readStderrLoop};
+ghost use Rattle.layouts.specs.Primitive.{version};
+ghost use Rattle.layouts.specs.Stderr.{messageOf, stderrLoop, stderrAnswer, readStderrLoop, errorKind, errorGroups};
+ghost use Rattle.table.specs.Table.{groupsAt};
 ghost use Rattle.codes.specs.Stderr.{codeNumber};
 ghost use Rattle.walk_judge.specs.Judged.{answerAs};
 ghost use Rattle.stderr.specs.Loop.{said, stoppedAs, recordFor, blockFilled, errorFilled, errorRead, errorReadBytes};
 use codes::StderrCode;
 use codes::StderrFound;
+use layouts::Mode;
 use layouts::Record;
 use layouts::Refusal;
 use numbers::Number;
@@ -119,7 +122,7 @@ fn stopped_record(messages: u64, code: u64) -> Record
 }
 
 fn answer(ends: usize, found: Record) -> Answer
-    ensures { λ r. ⌜ r ≡ answerAs (stderrAnswer ends found) ⌝ }
+    ensures { λ r. ⌜ r ≡ answerAs (stderrAnswer 0 ends found) ⌝ }
 {
     Answer {
         outcome: Outcome::Fine,
@@ -144,33 +147,70 @@ pub fn read_stderr_loop(s: &[u8]) -> Answer
     }
 }
 
-// The error block from a place on, with the record so far.
+// Kinds of answers, by the error block: nix-wire's, and what has no error; the published source's with traces; the one below 1.26.
+const PORTED: u64 = 0;
+
+const TRACED: u64 = 1;
+
+const SHORT: u64 = 2;
+
+// The first version whose errors have traces.
+const TRACES: u8 = 26;
+
+fn error_kind(mode: Mode, major: u16, minor: u8) -> u64
+    ensures { λ r. ⌜ r ≡ errorKind mode (version major minor) ⌝ }
+{
+    match mode {
+        Mode::Ported => PORTED,
+        Mode::Published => {
+            let spoken = walk_items::spoken(walk_items::layout(major, minor, 0));
+            if walk_items::at_least(spoken, TRACES) {
+                return TRACED;
+            }
+            SHORT
+        }
+    }
+}
+
+fn error_block(kind: u64) -> u8
+    ensures { λ r. ⌜ errorGroups kind ≡ groupsAt r ⌝ }
+{
+    match kind {
+        PORTED => table::PORTED_ERROR,
+        TRACED => table::TRACED_ERROR,
+        _ => table::SHORT_ERROR,
+    }
+}
+
+// The error block of a kind from a place on, with the record so far.
 fn read_error_block(
     s: &[u8],
     at: usize,
+    kind: u64,
     sofar: Record,
     words: &mut [u64],
     bytes: &mut [u8],
 ) -> Answer
-    ensures answer { λ r. ⌜ r ≡ blockFilled (now (s .entry)) at sofar (now (words .entry)) (now (bytes .entry)) .answer ⌝ }
-    ensures words { λ r. ⌜ now (words .exit) ≡ blockFilled (now (s .entry)) at sofar (now (words .entry)) (now (bytes .entry)) .words ⌝ }
-    ensures bytes { λ r. ⌜ now (bytes .exit) ≡ blockFilled (now (s .entry)) at sofar (now (words .entry)) (now (bytes .entry)) .bytes ⌝ }
+    ensures answer { λ r. ⌜ r ≡ blockFilled kind (now (s .entry)) at sofar (now (words .entry)) (now (bytes .entry)) .answer ⌝ }
+    ensures words { λ r. ⌜ now (words .exit) ≡ blockFilled kind (now (s .entry)) at sofar (now (words .entry)) (now (bytes .entry)) .words ⌝ }
+    ensures bytes { λ r. ⌜ now (bytes .exit) ≡ blockFilled kind (now (s .entry)) at sofar (now (words .entry)) (now (bytes .entry)) .bytes ⌝ }
 {
-    let block = walk_items::layout(0, 0, table::ERROR_BLOCK);
-    let a = walk_judge::judge_record(s, at, block, entries::slots(words, bytes), 0, sofar);
+    let block = walk_items::layout(0, 0, error_block(kind));
+    let mut a = walk_judge::judge_record(s, at, block, entries::slots(words, bytes), 0, sofar);
     let o = a.outcome;
     let Outcome::Fine = o else {
         return a;
     };
     walk_fill::fill_entries(s, at, block, words, 0, bytes, 0);
+    a.kind = kind;
     a
 }
 
 // The loop, and behind Error its block.
-fn read(s: &[u8], words: &mut [u64], bytes: &mut [u8]) -> Answer
-    ensures answer { λ r. ⌜ r ≡ errorFilled (now (s .entry)) (now (words .entry)) (now (bytes .entry)) .answer ⌝ }
-    ensures words { λ r. ⌜ now (words .exit) ≡ errorFilled (now (s .entry)) (now (words .entry)) (now (bytes .entry)) .words ⌝ }
-    ensures bytes { λ r. ⌜ now (bytes .exit) ≡ errorFilled (now (s .entry)) (now (words .entry)) (now (bytes .entry)) .bytes ⌝ }
+fn read(s: &[u8], kind: u64, words: &mut [u64], bytes: &mut [u8]) -> Answer
+    ensures answer { λ r. ⌜ r ≡ errorFilled kind (now (s .entry)) (now (words .entry)) (now (bytes .entry)) .answer ⌝ }
+    ensures words { λ r. ⌜ now (words .exit) ≡ errorFilled kind (now (s .entry)) (now (words .entry)) (now (bytes .entry)) .words ⌝ }
+    ensures bytes { λ r. ⌜ now (bytes .exit) ≡ errorFilled kind (now (s .entry)) (now (words .entry)) (now (bytes .entry)) .bytes ⌝ }
 {
     let l = stderr_loop(s);
     match l {
@@ -182,26 +222,38 @@ fn read(s: &[u8], words: &mut [u64], bytes: &mut [u8]) -> Answer
         } => {
             let r = stopped_record(messages, code);
             if code == StderrCode::Error.number() {
-                return read_error_block(s, ends, r, words, bytes);
+                return read_error_block(s, ends, kind, r, words, bytes);
             }
             answer(ends, r)
         }
     }
 }
 
-pub fn read_stderr_with_error(s: &[u8], entries: &mut [u64]) -> Answer
-    ensures answer { λ r. ⌜ r ≡ errorRead (now (s .entry)) (now (entries .entry)) .answer ⌝ }
-    ensures entries { λ r. ⌜ now (entries .exit) ≡ errorRead (now (s .entry)) (now (entries .entry)) .entries ⌝ }
+pub fn read_stderr_with_error(
+    mode: Mode,
+    major: u16,
+    minor: u8,
+    s: &[u8],
+    entries: &mut [u64],
+) -> Answer
+    ensures answer { λ r. ⌜ r ≡ errorRead (errorKind mode (version major minor)) (now (s .entry)) (now (entries .entry)) .answer ⌝ }
+    ensures entries { λ r. ⌜ now (entries .exit) ≡ errorRead (errorKind mode (version major minor)) (now (s .entry)) (now (entries .entry)) .entries ⌝ }
 {
     let mut none: [u8; 0] = [];
-    read(s, entries, &mut none)
+    read(s, error_kind(mode, major, minor), entries, &mut none)
 }
 
 // The same with entries of sixteen bytes.
-pub fn read_stderr_with_error_bytes(s: &[u8], entries: &mut [u8]) -> Answer
-    ensures answer { λ r. ⌜ r ≡ errorReadBytes (now (s .entry)) (now (entries .entry)) .answer ⌝ }
-    ensures entries { λ r. ⌜ now (entries .exit) ≡ errorReadBytes (now (s .entry)) (now (entries .entry)) .entries ⌝ }
+pub fn read_stderr_with_error_bytes(
+    mode: Mode,
+    major: u16,
+    minor: u8,
+    s: &[u8],
+    entries: &mut [u8],
+) -> Answer
+    ensures answer { λ r. ⌜ r ≡ errorReadBytes (errorKind mode (version major minor)) (now (s .entry)) (now (entries .entry)) .answer ⌝ }
+    ensures entries { λ r. ⌜ now (entries .exit) ≡ errorReadBytes (errorKind mode (version major minor)) (now (s .entry)) (now (entries .entry)) .entries ⌝ }
 {
     let mut none: [u64; 0] = [];
-    read(s, &mut none, entries)
+    read(s, error_kind(mode, major, minor), &mut none, entries)
 }

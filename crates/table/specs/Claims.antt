@@ -6,7 +6,7 @@ use Rattle.layouts.specs.Primitive.{version}
 use Rattle.layouts.specs.Shape.{asCount, kept, set, framed, Group, once, layout}
 use Rattle.layouts.specs.Operations.{argumentsNumber, replyNumber, skippedNumber, Kinds, none, only, byVersion, byFlag, byNumber, skippedKind, Operation, aNumber, operations, published}
 use Rattle.layouts.specs.Calls.{field}
-use Rattle.layouts.specs.Stderr.{Next, Read, Write, StartActivity, StopActivity, Result#, goes, messageOf, errorBlock}
+use Rattle.layouts.specs.Stderr.{Next, Read, Write, StartActivity, StopActivity, Result#, goes, messageOf, portedError, tracedError, shortError}
 use Rattle.layouts.specs.Handshake.{hello, featureFields, obsoleteFields, infoFields}
 use Rattle.table.specs.declared.Row.{Row}
 use Rattle.table.specs.Numbered.{Numbered, just}
@@ -72,7 +72,9 @@ pub record Others : Type 0 where
   pub stopped : messageOf StopActivity ≡ goes (groupsAt P.numberMessage)
   pub started : messageOf StartActivity ≡ goes (groupsAt P.startActivity)
   pub result : messageOf Result# ≡ goes (groupsAt P.resultMessage)
-  pub error : errorBlock ≡ layout (version 0 0) (groupsAt P.errorBlock)
+  pub ported : portedError ≡ groupsAt P.portedError
+  pub traced : tracedError ≡ groupsAt P.tracedError
+  pub short : shortError ≡ groupsAt P.shortError
   pub client : hello 0 1 ≡ layout (version 0 0) (groupsAt P.helloClient)
   pub daemon : hello 2 3 ≡ layout (version 0 0) (groupsAt P.helloDaemon)
   pub clientFeatures : once (featureFields 0) ∷ [] ≡ groupsAt P.featuresClient
@@ -86,7 +88,7 @@ pub record Others : Type 0 where
   pub number : aNumber ≡ groupsAt P.oneNumber
 
 pub others : Others
-unfolding messageOf errorBlock groupsAt groupsIn consGroup groupOf itemsAt items consGated unlessEnd itemOf whatOf targetOf roleOf packedTable
+unfolding messageOf groupsAt groupsIn consGroup groupOf itemsAt items consGated unlessEnd itemOf whatOf targetOf roleOf packedTable
 others =
     record {
       next = refl;
@@ -95,7 +97,9 @@ others =
       stopped = refl;
       started = refl;
       result = refl;
-      error = refl;
+      ported = refl;
+      traced = refl;
+      short = refl;
       client = refl;
       daemon = refl;
       clientFeatures = refl;

@@ -5,192 +5,202 @@ use Rattle.table.specs.declared.Row.{Row}
 use Rattle.table.specs.Numbered.{Numbered, just, byVersion, byFlag}
 
 abbrev pub size : ℕ
-size = 301
+size = 318
 
 -- the groups of the layouts, then their fields
 abbrev pub packedList : List ℕ
 packedList =
     -- 0: S
-    56577 ∷ 0 ∷
+    59393 ∷ 0 ∷
     -- 2: N
-    63489 ∷ 0 ∷
-    -- 4: S*
-    57601 ∷ 0 ∷
-    -- 6: from 1.25 S S S* flag F
-    48641 ∷ 0 ∷
-    -- 8: below 1.25 S n n s, from 1.25 S s s* n
-    39937 ∷ 0 ∷
-    -- 10: below 1.25 S, from 1.25 S without entry S S S* N N flag S* S
-    34305 ∷ 0 ∷
-    -- 12: S S S*
-    57089 ∷ 0 ∷
-    -- 14: s s s*
-    58113 ∷ 0 ∷
-    -- 16: S* N
-    63233 ∷ 0 ∷
-    -- 18: s* n
-    64001 ∷ 0 ∷
-    -- 20: nothing
-    30465 ∷ 0 ∷
-    -- 22: P
-    73985 ∷ 0 ∷
-    -- 24: N N N N N N N N N N, from 1.10 N, from 1.12 N P
-    27137 ∷ 0 ∷
-    -- 26: n n n n n n n n n n, from 1.10 n, from 1.12 n p
-    30721 ∷ 0 ∷
-    -- 28: N S* N N n n n
-    44545 ∷ 0 ∷
-    -- 30: n s* n n n n n
-    46593 ∷ 0 ∷
-    -- 32: N n n
-    59137 ∷ 0 ∷
-    -- 34: flag, if true S S* N N
-    53362 ∷ 0 ∷
-    -- 36: flag, if true S S S* N N, from 1.16 flag S* S
-    42354 ∷ 0 ∷
-    -- 38: s*
-    74497 ∷ 0 ∷
-    -- 40: count of S S s* n n
-    50279 ∷ 0 ∷
-    -- 42: S*, from 1.27 flag
-    64769 ∷ 0 ∷
-    -- 44: s*, from 1.27 n
-    65537 ∷ 0 ∷
-    -- 46: flag flag
     66305 ∷ 0 ∷
-    -- 48: n n
+    -- 4: S*
+    60417 ∷ 0 ∷
+    -- 6: from 1.25 S S S* flag F
+    49921 ∷ 0 ∷
+    -- 8: below 1.25 S n n s, from 1.25 S s s* n
+    41217 ∷ 0 ∷
+    -- 10: below 1.25 S, from 1.25 S without entry S S S* N N flag S* S
+    35585 ∷ 0 ∷
+    -- 12: S S S*
+    59905 ∷ 0 ∷
+    -- 14: s s s*
+    60929 ∷ 0 ∷
+    -- 16: S* N
+    66049 ∷ 0 ∷
+    -- 18: s* n
+    66817 ∷ 0 ∷
+    -- 20: nothing
+    31745 ∷ 0 ∷
+    -- 22: P
+    78337 ∷ 0 ∷
+    -- 24: N N N N N N N N N N, from 1.10 N, from 1.12 N P
+    28417 ∷ 0 ∷
+    -- 26: n n n n n n n n n n, from 1.10 n, from 1.12 n p
+    32001 ∷ 0 ∷
+    -- 28: N S* N N n n n
     45825 ∷ 0 ∷
+    -- 30: n s* n n n n n
+    47873 ∷ 0 ∷
+    -- 32: N n n
+    61953 ∷ 0 ∷
+    -- 34: flag, if true S S* N N
+    56178 ∷ 0 ∷
+    -- 36: flag, if true S S S* N N, from 1.16 flag S* S
+    43634 ∷ 0 ∷
+    -- 38: s*
+    78849 ∷ 0 ∷
+    -- 40: count of S S s* n n
+    51559 ∷ 0 ∷
+    -- 42: S*, from 1.27 flag
+    67585 ∷ 0 ∷
+    -- 44: s*, from 1.27 n
+    68353 ∷ 0 ∷
+    -- 46: flag flag
+    69121 ∷ 0 ∷
+    -- 48: n n
+    47105 ∷ 0 ∷
     -- 50: n s, from 1.29 n n n n, from 1.37 flag with n flag with n, from 1.28 p
-    37377 ∷ 0 ∷
+    38657 ∷ 0 ∷
     -- 52: S S*
-    57345 ∷ 0 ∷
-    -- 54: S s*
-    67073 ∷ 0 ∷
-    -- 56: from 1.23 F
-    75009 ∷ 0 ∷
-    -- 58: S* S* S* N N
-    51713 ∷ 0 ∷
-    -- 60: flag flag F
     60161 ∷ 0 ∷
+    -- 54: S s*
+    69889 ∷ 0 ∷
+    -- 56: from 1.23 F
+    79361 ∷ 0 ∷
+    -- 58: S* S* S* N N
+    52993 ∷ 0 ∷
+    -- 60: flag flag F
+    62977 ∷ 0 ∷
     -- 62: S F
-    67841 ∷ 0 ∷
+    70657 ∷ 0 ∷
     -- 64: count of s n s, from 1.29 n n n n, from 1.37 flag with n flag with n, from 1.28 p
-    37123 ∷ 0 ∷
+    38403 ∷ 0 ∷
     -- 66: S S
-    56321 ∷ 0 ∷
+    59137 ∷ 0 ∷
     -- 68: s s
-    68609 ∷ 0 ∷
+    71425 ∷ 0 ∷
     -- 70: below 1.22 S*, from 1.22 P
-    69377 ∷ 0 ∷
+    72193 ∷ 0 ∷
     -- 72: below 1.22 s*, from 1.22 p
-    70145 ∷ 0 ∷
+    72961 ∷ 0 ∷
     -- 74: S, below 1.31 S
-    70913 ∷ 0 ∷
+    73729 ∷ 0 ∷
     -- 76: S, below 1.31 s
-    71681 ∷ 0 ∷
+    74497 ∷ 0 ∷
     -- 78: s
-    55297 ∷ 0 ∷
+    58113 ∷ 0 ∷
     -- 80: n
-    46081 ∷ 0 ∷
+    47361 ∷ 0 ∷
     -- 82: n n n s, count of typed, n
-    54529 ∷ 75523 ∷ 46081 ∷ 0 ∷
+    57345 ∷ 79875 ∷ 47361 ∷ 0 ∷
     -- 86: n n, count of typed
-    45825 ∷ 75523 ∷ 0 ∷
+    47105 ∷ 79875 ∷ 0 ∷
     -- 89: S N S S, flag, if true s n n
-    55809 ∷ 61186 ∷ 0 ∷
-    -- 92: N N
-    52481 ∷ 0 ∷
-    -- 94: N N
-    72449 ∷ 0 ∷
-    -- 96: from 1.38 S*
+    58625 ∷ 64002 ∷ 0 ∷
+    -- 92: S N S S position, count of position S
+    54529 ∷ 75367 ∷ 0 ∷
+    -- 95: S N
     76033 ∷ 0 ∷
-    -- 98: from 1.38 S*
-    76545 ∷ 0 ∷
-    -- 100: from 1.14 flag with n, from 1.11 n
-    73217 ∷ 0 ∷
-    -- 102: from 1.33 S, from 1.35 N, N
-    62209 ∷ 0 ∷
-    -- 104: F
-    60673 ∷ 0 ∷
-    -- 106: N N N N N N N N N N, from 1.10 N, from 1.12 N P
+    -- 97: N N
+    53761 ∷ 0 ∷
+    -- 99: N N
+    76801 ∷ 0 ∷
+    -- 101: from 1.38 S*
+    80385 ∷ 0 ∷
+    -- 103: from 1.38 S*
+    80897 ∷ 0 ∷
+    -- 105: from 1.14 flag with n, from 1.11 n
+    77569 ∷ 0 ∷
+    -- 107: from 1.33 S, from 1.35 N, N
+    65025 ∷ 0 ∷
+    -- 109: F
+    63489 ∷ 0 ∷
+    -- 111: N N N N N N N N N N, from 1.10 N, from 1.12 N P
     65 ∷ 129 ∷ 193 ∷ 257 ∷ 321 ∷ 385 ∷ 449 ∷ 513 ∷ 577 ∷ 641 ∷ 168641 ∷ 201473 ∷ 202340 ∷ 0 ∷
-    -- 120: n n n n n n n n n n, from 1.10 n, from 1.12 n p
+    -- 125: n n n n n n n n n n, from 1.10 n, from 1.12 n p
     1 ∷ 1 ∷ 1 ∷ 1 ∷ 1 ∷ 1 ∷ 1 ∷ 1 ∷ 1 ∷ 1 ∷ 167937 ∷ 200705 ∷ 200772 ∷ 0 ∷
-    -- 134: below 1.25 S, from 1.25 S without entry S S S* N N flag S* S
+    -- 139: below 1.25 S, from 1.25 S without entry S S S* N N flag S* S
     417826 ∷ 413714 ∷ 413730 ∷ 413730 ∷ 415331 ∷ 413761 ∷ 413825 ∷ 414657 ∷ 415395 ∷ 413730 ∷ 0 ∷
-    -- 145: s n s, from 1.29 n n n n, from 1.37 flag with n flag with n, from 1.28 p
+    -- 150: s n s, from 1.29 n n n n, from 1.37 flag with n flag with n, from 1.28 p
     2 ∷ 1 ∷ 2 ∷ 479233 ∷ 479233 ∷ 479233 ∷ 479233 ∷ 610310 ∷ 610310 ∷ 462852 ∷ 0 ∷
-    -- 156: below 1.25 S n n s, from 1.25 S s s* n
+    -- 161: below 1.25 S n n s, from 1.25 S s s* n
     417826 ∷ 417793 ∷ 417793 ∷ 417794 ∷ 413730 ∷ 413698 ∷ 413699 ∷ 413697 ∷ 0 ∷
-    -- 165: S S S* N N, from 1.16 flag S* S
+    -- 170: S S S* N N, from 1.16 flag S* S
     34 ∷ 34 ∷ 1635 ∷ 65 ∷ 129 ∷ 267201 ∷ 267939 ∷ 266274 ∷ 0 ∷
-    -- 174: N S* N N n n n
+    -- 179: N S* N N n n n
     65 ∷ 1635 ∷ 129 ∷ 193 ∷ 1 ∷ 1 ∷ 1 ∷ 0 ∷
-    -- 182: n s* n n n n n
+    -- 187: n s* n n n n n
     1 ∷ 3 ∷ 1 ∷ 1 ∷ 1 ∷ 1 ∷ 1 ∷ 0 ∷
-    -- 190: from 1.25 S S S* flag F
+    -- 195: from 1.25 S S S* flag F
     413730 ∷ 413730 ∷ 415331 ∷ 414529 ∷ 413701 ∷ 0 ∷
-    -- 196: S S s* n n
+    -- 201: S S s* n n
     34 ∷ 34 ∷ 3 ∷ 1 ∷ 1 ∷ 0 ∷
-    -- 202: S* S* S* N N
+    -- 207: S* S* S* N N
     1635 ∷ 1699 ∷ 1763 ∷ 65 ∷ 129 ∷ 0 ∷
-    -- 208: S S* N N
+    -- 213: S N S S position
+    34 ∷ 193 ∷ 34 ∷ 34 ∷ 8 ∷ 0 ∷
+    -- 219: S S* N N
     34 ∷ 1635 ∷ 65 ∷ 129 ∷ 0 ∷
-    -- 213: n n n s
+    -- 224: n n n s
     1 ∷ 1 ∷ 1 ∷ 2 ∷ 0 ∷
-    -- 218: S N S S
+    -- 229: S N S S
     34 ∷ 193 ∷ 34 ∷ 34 ∷ 0 ∷
-    -- 223: S S S*
+    -- 234: S S S*
     34 ∷ 34 ∷ 1635 ∷ 0 ∷
-    -- 227: s s s*
+    -- 238: s s s*
     2 ∷ 2 ∷ 3 ∷ 0 ∷
-    -- 231: N n n
+    -- 242: N n n
     65 ∷ 1 ∷ 1 ∷ 0 ∷
-    -- 235: flag flag F
+    -- 246: flag flag F
     833 ∷ 897 ∷ 5 ∷ 0 ∷
-    -- 239: s n n
+    -- 250: s n n
     2 ∷ 1 ∷ 1 ∷ 0 ∷
-    -- 243: from 1.33 S, from 1.35 N, N
+    -- 254: from 1.33 S, from 1.35 N, N
     544802 ∷ 577857 ∷ 385 ∷ 0 ∷
-    -- 247: S* N
+    -- 258: S* N
     1635 ∷ 65 ∷ 0 ∷
-    -- 250: s* n
+    -- 261: s* n
     67 ∷ 1 ∷ 0 ∷
-    -- 253: S*, from 1.27 flag
+    -- 264: S*, from 1.27 flag
     1635 ∷ 447297 ∷ 0 ∷
-    -- 256: s*, from 1.27 n
+    -- 267: s*, from 1.27 n
     67 ∷ 446465 ∷ 0 ∷
-    -- 259: flag flag
+    -- 270: flag flag
     833 ∷ 897 ∷ 0 ∷
-    -- 262: S s*
+    -- 273: S s*
     34 ∷ 3 ∷ 0 ∷
-    -- 265: S F
+    -- 276: S F
     34 ∷ 5 ∷ 0 ∷
-    -- 268: s s
+    -- 279: s s
     2 ∷ 2 ∷ 0 ∷
-    -- 271: below 1.22 S*, from 1.22 P
+    -- 282: below 1.22 S*, from 1.22 P
     370275 ∷ 366180 ∷ 0 ∷
-    -- 274: below 1.22 s*, from 1.22 p
+    -- 285: below 1.22 s*, from 1.22 p
     368707 ∷ 364612 ∷ 0 ∷
-    -- 277: S, below 1.31 S
+    -- 288: S, below 1.31 S
     34 ∷ 516130 ∷ 0 ∷
-    -- 280: S, below 1.31 s
+    -- 291: S, below 1.31 s
     34 ∷ 516098 ∷ 0 ∷
-    -- 283: N N
+    -- 294: position S
+    8 ∷ 34 ∷ 0 ∷
+    -- 297: S N
+    34 ∷ 193 ∷ 0 ∷
+    -- 300: N N
     193 ∷ 257 ∷ 0 ∷
-    -- 286: from 1.14 flag with n, from 1.11 n
+    -- 303: from 1.14 flag with n, from 1.11 n
     233478 ∷ 184321 ∷ 0 ∷
-    -- 289: P
+    -- 306: P
     1636 ∷ 0 ∷
-    -- 291: s*
+    -- 308: s*
     67 ∷ 0 ∷
-    -- 293: from 1.23 F
+    -- 310: from 1.23 F
     380933 ∷ 0 ∷
-    -- 295: typed
+    -- 312: typed
     7 ∷ 0 ∷
-    -- 297: from 1.38 S*
+    -- 314: from 1.38 S*
     628323 ∷ 0 ∷
-    -- 299: from 1.38 S*
+    -- 316: from 1.38 S*
     628387 ∷ 0 ∷
     []
 
@@ -259,32 +269,38 @@ startActivity = 82
 abbrev pub resultMessage : ℕ
 resultMessage = 86
 
-abbrev pub errorBlock : ℕ
-errorBlock = 89
+abbrev pub portedError : ℕ
+portedError = 89
+
+abbrev pub tracedError : ℕ
+tracedError = 92
+
+abbrev pub shortError : ℕ
+shortError = 95
 
 abbrev pub helloClient : ℕ
-helloClient = 92
+helloClient = 97
 
 abbrev pub helloDaemon : ℕ
-helloDaemon = 94
+helloDaemon = 99
 
 abbrev pub featuresClient : ℕ
-featuresClient = 96
+featuresClient = 101
 
 abbrev pub featuresDaemon : ℕ
-featuresDaemon = 98
+featuresDaemon = 103
 
 abbrev pub obsolete : ℕ
-obsolete = 100
+obsolete = 105
 
 abbrev pub info : ℕ
-info = 102
+info = 107
 
 abbrev pub stringSet : ℕ
 stringSet = 4
 
 abbrev pub framedData : ℕ
-framedData = 104
+framedData = 109
 
 abbrev pub nothing : ℕ
 nothing = 1

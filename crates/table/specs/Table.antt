@@ -7,7 +7,7 @@ use lib.Dec.{ltb, eqb}
 use Rattle.layouts.specs.declared.Mode.{Mode}
 use Rattle.layouts.specs.declared.Mode.the-variants.{Ported, Published}
 use Rattle.layouts.specs.Primitive.{pick, Version, version}
-use Rattle.layouts.specs.Shape.{Target, dropped, asNumber, asFlag, asCount, asPresence, Role, passed, checked, kept, What, num, str, set, pairs, framed, maybe, typed, Gated, always, from, below, Group, once, opt, many}
+use Rattle.layouts.specs.Shape.{Target, dropped, asNumber, asFlag, asCount, asPresence, Role, passed, checked, kept, What, num, str, set, pairs, framed, maybe, typed, position, Gated, always, from, below, Group, once, opt, many}
 use Rattle.table.specs.declared.Field.{Field}
 use Rattle.table.specs.declared.PackedGroup.{PackedGroup}
 use Rattle.table.specs.declared.Row.{Row}
@@ -42,7 +42,7 @@ unfoldable pub whatOf : (kind : ℕ) → Role → Target → What
 whatOf kind r i =
     pick (eqb kind 2) (str r)
     (pick (eqb kind 5) framed
-    (pick (eqb kind 3) (set r i) (pick (eqb kind 4) (pairs r i) (pick (eqb kind 6) maybe (pick (eqb kind 7) typed (num i))))))
+    (pick (eqb kind 3) (set r i) (pick (eqb kind 4) (pairs r i) (pick (eqb kind 6) maybe (pick (eqb kind 7) typed (pick (eqb kind 8) position (num i)))))))
 
 unfoldable pub itemOf : (gate minor : ℕ) → What → Gated
 itemOf gate minor w = pick (eqb gate 0) (always w) (pick (eqb gate 1) (from minor w) (below minor w))

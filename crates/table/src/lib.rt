@@ -4,7 +4,6 @@ pub mod kinds;
 pub mod places;
 
 pub use places::EMPTY_FIELDS;
-pub use places::ERROR_BLOCK;
 pub use places::FEATURES_CLIENT;
 pub use places::FEATURES_DAEMON;
 pub use places::FRAMED_DATA;
@@ -15,11 +14,14 @@ pub use places::NOTHING;
 pub use places::NUMBER_MESSAGE;
 pub use places::OBSOLETE;
 pub use places::ONE_NUMBER;
+pub use places::PORTED_ERROR;
 pub use places::RESULT_MESSAGE;
+pub use places::SHORT_ERROR;
 pub use places::SIZE;
 pub use places::START_ACTIVITY;
 pub use places::STRING_MESSAGE;
 pub use places::STRING_SET;
+pub use places::TRACED_ERROR;
 
 // A field: its kind (0 ends a group), what becomes of its strings, where its number goes, and whether a version decides that it is there, and which.
 pub struct Field {
@@ -69,6 +71,8 @@ pub const FRAMES: u8 = 5;
 pub const MAYBE: u8 = 6;
 
 pub const TYPED: u8 = 7;
+
+pub const POSITION: u8 = 8;
 
 // Kinds of groups; 0 ends a layout.
 pub const ONCE: u8 = 1;

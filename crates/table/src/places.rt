@@ -1,7 +1,7 @@
 // Made by ./tables from crates/layouts/specs and crates/table/specs/Claims.antt: where the groups of each layout begin.
 
 // How many numbers there are. Past its end the table reads as 0, so this is also a place without fields.
-pub const SIZE: usize = 301;
+pub const SIZE: usize = 318;
 
 // ---- the layouts outside of the table of operations
 
@@ -18,31 +18,37 @@ pub const START_ACTIVITY: u8 = 82;
 pub const RESULT_MESSAGE: u8 = 86;
 
 // S N S S, flag, if true s n n
-pub const ERROR_BLOCK: u8 = 89;
+pub const PORTED_ERROR: u8 = 89;
+
+// S N S S position, count of position S
+pub const TRACED_ERROR: u8 = 92;
+
+// S N
+pub const SHORT_ERROR: u8 = 95;
 
 // N N
-pub const HELLO_CLIENT: u8 = 92;
+pub const HELLO_CLIENT: u8 = 97;
 
 // N N
-pub const HELLO_DAEMON: u8 = 94;
+pub const HELLO_DAEMON: u8 = 99;
 
 // from 1.38 S*
-pub const FEATURES_CLIENT: u8 = 96;
+pub const FEATURES_CLIENT: u8 = 101;
 
 // from 1.38 S*
-pub const FEATURES_DAEMON: u8 = 98;
+pub const FEATURES_DAEMON: u8 = 103;
 
 // from 1.14 flag with n, from 1.11 n
-pub const OBSOLETE: u8 = 100;
+pub const OBSOLETE: u8 = 105;
 
 // from 1.33 S, from 1.35 N, N
-pub const INFO: u8 = 102;
+pub const INFO: u8 = 107;
 
 // S*
 pub const STRING_SET: u8 = 4;
 
 // F
-pub const FRAMED_DATA: u8 = 104;
+pub const FRAMED_DATA: u8 = 109;
 
 // nothing
 pub const NOTHING: u8 = 1;

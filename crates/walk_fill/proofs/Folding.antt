@@ -8,7 +8,7 @@ use native.Mathlib.Omega.{arith}
 use native.Mathlib.Decide.{decLt}
 use borrow.Author.Tests.{ne-eqb}
 use Rattle.layouts.specs.Primitive.{numberAt, Version}
-use Rattle.layouts.specs.Shape.{Target, dropped, Tree, ask, say, strings, units, field}
+use Rattle.layouts.specs.Shape.{Target, dropped, Tree, ask, say, fail, strings, units, field}
 use Rattle.layouts.specs.Pieces.{Pieces}
 use Rattle.layouts.specs.Record.{isKept}
 use Rattle.layouts.specs.Judge.{entry, entriesOf, payloadOf}
@@ -22,7 +22,7 @@ use Rattle.table.specs.Table.{roleOf, targetOf, whatOf}
 use Rattle.walk_items.specs.declared.Item.{Item}
 use Rattle.walk_items.specs.Items.{versionOf, layoutTree, restTree, timesOf, onto, itemTree, targetFor, afterNumber}
 use Rattle.walk_items.proofs.Trees.{end-item, quiet-item, times-item, field-item}
-use Rattle.walk_items.proofs.Fields.{is-text, is-framed, is-number, after-set, after-pairs, after-false, after-true, after-type-0, after-typed, after-nothing}
+use Rattle.walk_items.proofs.Fields.{is-text, is-framed, is-number, after-set, after-pairs, after-false, after-true, after-type-0, after-typed, after-zero, after-position, after-nothing}
 use Rattle.walk_rooms.specs.Rooms.{Put}
 use Rattle.walk_rooms.proofs.Laws.{filling-end}
 use Rattle.walk_fill.specs.declared.Listed.{Listed}
@@ -108,8 +108,15 @@ module _ (s : List ℕ) (at : ℕ) (ws : List ℕ) (w : ℕ) (bs : List ℕ) (b 
     pub false-after : kind ≡ 6 → v ≡ 0 → After ws bs (record { at = at; words = w; bytes = b })
     false-after e f = stays (λ k. after-false kind role v k e f)
 
-    pub nothing-after : (kind ≡ 3 → ⊥) → (kind ≡ 4 → ⊥) → (kind ≡ 6 → ⊥) → (kind ≡ 7 → ⊥) → After ws bs (record { at = at; words = w; bytes = b })
-    nothing-after a b' c d = stays (λ k. after-nothing kind role v k a b' c d)
+    pub zero-after : kind ≡ 8 → v ≡ 0 → After ws bs (record { at = at; words = w; bytes = b })
+    zero-after e f = stays (λ k. after-zero kind role v k e f)
+
+    pub position-after : kind ≡ 8 → (v ≡ 0 → ⊥) → After ws bs (record { at = length s; words = w; bytes = b })
+    unfolding runThere
+    position-after e f = lists-as ws bs _ _ (λ k. fail 15 8) (λ k. after-position kind role v k e f) (lists-none (length s) (λ k. fail 15 8) (λ k. past-none s (length s) (omega arith) (k tt)))
+
+    pub nothing-after : (kind ≡ 3 → ⊥) → (kind ≡ 4 → ⊥) → (kind ≡ 6 → ⊥) → (kind ≡ 7 → ⊥) → (kind ≡ 8 → ⊥) → After ws bs (record { at = at; words = w; bytes = b })
+    nothing-after a b' c d e = stays (λ k. after-nothing kind role v k a b' c d e)
 
 -- ---- a field
 module _ (s : List ℕ) (at kind role : ℕ) (ws : List ℕ) (w : ℕ) (bs : List ℕ) (b : ℕ) (ps : List ℕ) (p : ℕ) where

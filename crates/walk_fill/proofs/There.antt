@@ -80,7 +80,7 @@ past-none s at h (say r k) =
     let g : length s < at + 8 + n + padOf n = omega arith in
     rw (not-there s (at + 8 + n + padOf n) (text r (at + 8) n (runThere (k tt) s (at + 8 + n + padOf n))) g) (refl, refl)
 past-none s at h (frames k) = rw (chunks-past (suc (length s)) s at (λ a. runThere (k tt) s a) h) (refl, refl)
-past-none s at h (fail which place) = (refl, refl)
+past-none s at h (fail which back) = (refl, refl)
 past-none s at h stop = (refl, refl)
 
 -- ---- a layout that was judged fine
@@ -124,7 +124,7 @@ module _ (s : List ℕ) where
   all-there (ask i k) at e q = num-all i at e (λ n. run (k n) s (at + 8)) (λ n. runThere (k n) s (at + 8)) (num-view (length s) (numberAt s at) at) q (λ n p. all-there (k n) (at + 8) e p)
   all-there (say r k) at e q = text-all r at e (λ a. run (k tt) s a) (λ a. runThere (k tt) s a) (text-view (length s) (numberAt s at) at) q (λ a p. all-there (k tt) a e p)
   all-there (frames k) at e q = chunks-all (suc (length s)) at e (λ a. run (k tt) s a) (λ a. runThere (k tt) s a) q (λ a p. all-there (k tt) a e p)
-  all-there (fail which place) at e q = absurd (never-both q)
+  all-there (fail which back) at e q = absurd (never-both q)
   all-there stop at e q = refl
 
 -- what is filled in of it is what was judged

@@ -27,7 +27,7 @@ unfolding chunksThere
 runThere (ask i k) s at = ifThere s (at + 8) (number i at (numberAt s at) (runThere (k (numberAt s at)) s (at + 8)))
 runThere (say r k) s at = ifThere s (at + 8 + numberAt s at + padOf (numberAt s at)) (text r (at + 8) (numberAt s at) (runThere (k tt) s (at + 8 + numberAt s at + padOf (numberAt s at))))
 runThere (frames k) s at = chunksThere (suc (length s)) s at (λ at'. runThere (k tt) s at')
-runThere (fail which place) s at = nothing
+runThere (fail which back) s at = nothing
 runThere stop s at = end at
 
 abbrev pub piecesThere : (layout : ℕ) → List ℕ → (at : ℕ) → Pieces

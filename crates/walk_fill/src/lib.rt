@@ -229,6 +229,20 @@ fn fill_after(
         }
         return fill_series(s, at, table::PASSED, 0, 1, words, word, bytes, byte);
     }
+    if kind == table::POSITION {
+        if n == 0 {
+            return Listed {
+                at,
+                words: word,
+                bytes: byte,
+            };
+        }
+        return Listed {
+            at: s.len(),
+            words: word,
+            bytes: byte,
+        };
+    }
     Listed {
         at,
         words: word,

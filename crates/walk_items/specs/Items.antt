@@ -6,7 +6,7 @@ use mathlib.Core.Bool.{Bool, true, not}
 use lib.ListN.{length}
 use lib.Dec.{eqb, ltb}
 use Rattle.layouts.specs.Primitive.{pick, Version, version, atLeast}
-use Rattle.layouts.specs.Shape.{asNumber, Tree, ask, stop, field, fields, repeated, groups, layout, truth, units, ifTrue, byType}
+use Rattle.layouts.specs.Shape.{asNumber, Tree, ask, stop, field, fields, repeated, groups, layout, truth, units, ifTrue, byType, ifZero}
 use Rattle.layouts.specs.Pieces.{Pieces, run}
 use Rattle.table.specs.declared.Field.{Field}
 use Rattle.table.specs.declared.PackedGroup.{PackedGroup}
@@ -96,12 +96,12 @@ nextItem v pc reps body i = fieldItem v pc reps body i (fieldAt pc)
 
 -- ---- what follows the number of a field
 abbrev pub targetFor : (kind target : ℕ) → ℕ
-targetFor kind target = pick (eqb kind 6) 0 (pick (eqb kind 7) 0 target)
+targetFor kind target = pick (eqb kind 6) 0 (pick (eqb kind 7) 0 (pick (eqb kind 8) 0 target))
 
 unfoldable pub afterNumber : (kind role n : ℕ) → (Unit {0} → Tree) → Tree
 afterNumber kind role n k =
     pick (eqb kind 3) (units (roleOf role) 0 n k)
-    (pick (eqb kind 4) (units (roleOf role) 1 n k) (pick (eqb kind 6) (ifTrue n k) (pick (eqb kind 7) (byType n k) (k tt))))
+    (pick (eqb kind 4) (units (roleOf role) 1 n k) (pick (eqb kind 6) (ifTrue n k) (pick (eqb kind 7) (byType n k) (pick (eqb kind 8) (ifZero n k) (k tt)))))
 
 -- ---- the measure: groups, then times, then fields. A u64 of times takes less than 2^75, and all of it less than 2^90
 abbrev pub rank : (pc reps run : ℕ) → ℕ

@@ -1,16 +1,17 @@
 -- A string, framed data, a number and what follows it: as the items of a layout.
-use Prim.Native.Nat.{ℕ, _+_, _≤_, _<_}
+use Prim.Native.Nat.{ℕ, _+_, _-_, _≤_, _<_}
 use mathlib.Core.Path.{_≡_, refl, sym, _∙_, ap, subst}
 use mathlib.Core.List.{List}
 use lib.ListN.{length}
 use native.Mathlib.Omega.{arith}
 use native.Mathlib.Decide.{decLt}
+use borrow.Author.Tests.{ne-eqb}
 use Rattle.layouts.specs.declared.Record.{Record}
 use Rattle.layouts.specs.declared.Refusal.{Refusal}
 use Rattle.layouts.specs.Primitive.{Version}
 use Rattle.layouts.specs.Refusal.{plain, refusedBy}
 use Rattle.layouts.specs.Calls.{peekNumber}
-use Rattle.layouts.specs.Shape.{Target, dropped, asNumber, asFlag, asCount, asPresence, Tree, ask, say, frames, strings}
+use Rattle.layouts.specs.Shape.{Target, dropped, asNumber, asFlag, asCount, asPresence, Tree, ask, say, frames, fail, strings}
 use Rattle.layouts.specs.Pieces.{run}
 use Rattle.layouts.specs.Record.{noted, withEntries, withPayload}
 use Rattle.layouts.specs.Judge.{judgeOf, entriesOf}
@@ -22,12 +23,13 @@ use Rattle.table.specs.Table.{roleOf, targetOf}
 use Rattle.walk_items.specs.declared.Item.{Item}
 use Rattle.walk_items.specs.Items.{timesOf, onto, itemTree, targetFor, afterNumber}
 use Rattle.walk_items.proofs.Trees.{times-item, field-item}
-use Rattle.walk_items.proofs.Fields.{is-text, is-framed, is-number, after-set, after-pairs, after-false, after-true, after-type-0, after-typed, after-nothing}
+use Rattle.walk_items.proofs.Fields.{is-text, is-framed, is-number, after-set, after-pairs, after-false, after-true, after-type-0, after-typed, after-zero, after-position, after-nothing}
 use Rattle.walk_take.specs.declared.Series.{Series}
 use Rattle.walk_take.specs.declared.Series.the-variants as O
-use Rattle.walk_take.specs.Taking.{inWindow, ahead, held, seriesTo, seriesIn, Takes, SeriesFrom, SeriesTook, framesTo, framesIn, TakesFrames}
+use Rattle.walk_take.specs.Taking.{inWindow, ahead, keptOf, held, seriesTo, seriesIn, Takes, SeriesFrom, SeriesTook, framesTo, framesIn, TakesFrames}
 use Rattle.walk_take.proofs.Numbers.{same-entries, cut-judges, ask-judges, ask-keeps}
 use Rattle.walk_take.proofs.Frames.{same-payload}
+use Rattle.walk_take.proofs.Pieces.{nothing-in}
 use Rattle.walk_judge.specs.declared.Fed.the-variants as F
 use Rattle.walk_judge.specs.Judged.{Feeds}
 
@@ -47,6 +49,9 @@ noted-entries x (asNumber i) v n = refl
 noted-entries x (asFlag i) v n = refl
 noted-entries x (asCount i) v n = refl
 noted-entries x asPresence v n = refl
+
+pub own-target : (kind target : ℕ) → (kind ≡ 6 → ⊥) → (kind ≡ 7 → ⊥) → (kind ≡ 8 → ⊥) → target ≡ targetFor kind target
+own-target kind target a b c = rw (ne-eqb kind 6 a, ne-eqb kind 7 b, ne-eqb kind 8 c)
 
 -- ---- what follows the number of a field
 pub took-from : (s : List ℕ) (at : ℕ) (r : Series) → SeriesTook s at r → SeriesFrom at r
@@ -92,8 +97,18 @@ module _ (s : List ℕ) (slots at : ℕ) (w : List ℕ) (n kind role v : ℕ) wh
   pub false-after : kind ≡ 6 → v ≡ 0 → After s slots at w n w kind role v (O.Past at n)
   false-after e f = takes-as s slots at w n w _ _ (O.Past at n) (λ k. after-false kind role v k e f) stays
 
-  pub nothing-after : (kind ≡ 3 → ⊥) → (kind ≡ 4 → ⊥) → (kind ≡ 6 → ⊥) → (kind ≡ 7 → ⊥) → After s slots at w n w kind role v (O.Past at n)
-  nothing-after a b c d = takes-as s slots at w n w _ _ (O.Past at n) (λ k. after-nothing kind role v k a b c d) stays
+  pub zero-after : kind ≡ 8 → v ≡ 0 → After s slots at w n w kind role v (O.Past at n)
+  zero-after e f = takes-as s slots at w n w _ _ (O.Past at n) (λ k. after-zero kind role v k e f) stays
+
+  fails : (x : Refusal) → x ≡ plain 15 (at - 8) → Takes s slots at (λ k. fail 15 8) w n w (O.Refused x)
+  unfolding run judgeOf keptOf
+  fails x p = record { judges = λ room k y z. rw p; keeps = λ k. tt; holds = λ k. nothing-in w n }
+
+  pub position-after : kind ≡ 8 → (v ≡ 0 → ⊥) → (x : Refusal) → x ≡ plain 15 (at - 8) → After s slots at w n w kind role v (O.Refused x)
+  position-after e f x p = takes-as s slots at w n w _ _ (O.Refused x) (λ k. after-position kind role v k e f) (fails x p)
+
+  pub nothing-after : (kind ≡ 3 → ⊥) → (kind ≡ 4 → ⊥) → (kind ≡ 6 → ⊥) → (kind ≡ 7 → ⊥) → (kind ≡ 8 → ⊥) → After s slots at w n w kind role v (O.Past at n)
+  nothing-after a b c d e = takes-as s slots at w n w _ _ (O.Past at n) (λ k. after-nothing kind role v k a b c d e) stays
 
 -- ---- an item
 module _ (s : List ℕ) (slots at n p : ℕ) (f : Item) (w : List ℕ) where

@@ -1,7 +1,7 @@
 // The judge: a fold over items that ends in the record of a layout, or in the first refusal. It writes no lent room but that of the record's numbers. What an
 // item has is judged by `walk_take`.
 ghost use mathlib.Core.Path.{_≡_};
-ghost use Prim.Native.Nat.{ℕ};
+ghost use Prim.Native.Nat.{ℕ, _≤_};
 ghost use Rattle.layouts.specs.Refusal.{refusedBy};
 ghost use Rattle.layouts.specs.Shape.{truth};
 ghost use Rattle.layouts.specs.Record.{blank, noted};
@@ -92,7 +92,7 @@ fn flag(x: u64) -> u64
     1
 }
 
-// What follows the number of a field.
+// What follows the number of a field. A position is refused at the number itself.
 fn judge_after(
     s: &[u8],
     at: usize,
@@ -103,6 +103,7 @@ fn judge_after(
     n: usize,
     window: &mut [u64; 16],
 ) -> Series
+    requires { ⌜ 8 ≤ at ⌝ }
     ensures law { λ r. ⌜ Takes (now (s .entry)) slots at (afterNumber kind role x) (now (window .entry)) n (now (window .exit)) r ⌝ }
     ensures on { λ r. ⌜ SeriesFrom at r ⌝ }
 {
@@ -124,20 +125,25 @@ fn judge_after(
         }
         return walk_take::judge_text(s, at, table::PASSED, slots, n, window);
     }
+    if kind == table::POSITION {
+        if x == 0 {
+            return Series::Past { at, entries: n };
+        }
+        return Series::Refused(layouts::refuse(layouts::NONZERO_POSITION, at - 8));
+    }
     Series::Past { at, entries: n }
 }
 
-// The flag of a maybe and the type of a typed field go nowhere.
+// The flag of a maybe, the type of a typed field and a position go nowhere.
 fn target_for(kind: u8, target: u8) -> u8
     ensures { λ r. ⌜ r ≡ targetFor kind target ⌝ }
 {
-    if kind == table::MAYBE {
-        return table::DROPPED;
+    match kind {
+        table::MAYBE => table::DROPPED,
+        table::TYPED => table::DROPPED,
+        table::POSITION => table::DROPPED,
+        _ => target,
     }
-    if kind == table::TYPED {
-        return table::DROPPED;
-    }
-    target
 }
 
 // An item that begins with a number.

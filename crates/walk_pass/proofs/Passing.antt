@@ -1,5 +1,5 @@
 -- A number, a string, framed data, what follows a number and a whole field, passed.
-use Prim.Native.Nat.{ℕ, _+_, _≤_}
+use Prim.Native.Nat.{ℕ, _+_, _-_, _≤_}
 use mathlib.Core.Path.{_≡_, refl, _∙_, ap}
 use mathlib.Core.List.{List}
 use lib.ListN.{length}
@@ -7,7 +7,7 @@ use native.Mathlib.Omega.{arith}
 use Rattle.layouts.specs.Primitive.{numberAt}
 use Rattle.layouts.specs.declared.Refusal.{Refusal}
 use Rattle.layouts.specs.Refusal.{plain}
-use Rattle.layouts.specs.Shape.{Target, dropped, Role, passed, Tree, ask, say, frames, strings, field}
+use Rattle.layouts.specs.Shape.{Target, dropped, Role, passed, Tree, ask, say, frames, fail, strings, field}
 use Rattle.layouts.specs.Pieces.{textOf, chunkOf, run, skipOf}
 use Rattle.layouts.specs.Calls.{peekNumber}
 use Rattle.numbers.specs.declared.Number.{Number}
@@ -25,7 +25,7 @@ use Rattle.walk_strings.specs.declared.Passed.{Passed}
 use Rattle.walk_strings.specs.declared.Passed.the-variants as P
 use Rattle.walk_strings.specs.Strings.{series, Passes, PastFrom}
 use Rattle.walk_items.specs.Items.{targetFor, afterNumber}
-use Rattle.walk_items.proofs.Fields.{is-text, is-framed, is-number, after-set, after-pairs, after-false, after-true, after-type-0, after-typed, after-nothing}
+use Rattle.walk_items.proofs.Fields.{is-text, is-framed, is-number, after-set, after-pairs, after-false, after-true, after-type-0, after-typed, after-zero, after-position, after-nothing}
 use Rattle.walk_pass.specs.Passing.{Took}
 
 module _ (s : List ℕ) (at : ℕ) where
@@ -111,8 +111,15 @@ module _ (s : List ℕ) (at kind n : ℕ) where
   pub false-after : kind ≡ 6 → n ≡ 0 → After s at kind n (P.Past at)
   false-after e z role = passes-as s at _ (λ k. k tt) (P.Past at) (λ k. after-false kind role n k e z) (λ k. refl)
 
-  pub nothing-after : (kind ≡ 3 → ⊥) → (kind ≡ 4 → ⊥) → (kind ≡ 6 → ⊥) → (kind ≡ 7 → ⊥) → After s at kind n (P.Past at)
-  nothing-after x y z w role = passes-as s at _ (λ k. k tt) (P.Past at) (λ k. after-nothing kind role n k x y z w) (λ k. refl)
+  pub zero-after : kind ≡ 8 → n ≡ 0 → After s at kind n (P.Past at)
+  zero-after e z role = passes-as s at _ (λ k. k tt) (P.Past at) (λ k. after-zero kind role n k e z) (λ k. refl)
+
+  pub position-after : kind ≡ 8 → (n ≡ 0 → ⊥) → (x : Refusal) → x ≡ plain 15 (at - 8) → After s at kind n (P.Refused x)
+  unfolding run skipOf
+  position-after e z x p role = passes-as s at _ (λ k. fail 15 8) (P.Refused x) (λ k. after-position kind role n k e z) (λ k. rw p)
+
+  pub nothing-after : (kind ≡ 3 → ⊥) → (kind ≡ 4 → ⊥) → (kind ≡ 6 → ⊥) → (kind ≡ 7 → ⊥) → (kind ≡ 8 → ⊥) → After s at kind n (P.Past at)
+  nothing-after x y z w v role = passes-as s at _ (λ k. k tt) (P.Past at) (λ k. after-nothing kind role n k x y z w v) (λ k. refl)
 
 -- ---- a field by its kind
 module _ (s : List ℕ) (at kind : ℕ) (r : Passed) where

@@ -1,6 +1,6 @@
 // Passing over the items of a layout, whatever they are, without a look at contents.
 ghost use mathlib.Core.Path.{_≡_};
-ghost use Prim.Native.Nat.{ℕ};
+ghost use Prim.Native.Nat.{ℕ, _≤_};
 ghost use Rattle.layouts.specs.Primitive.{Version};
 ghost use Rattle.layouts.specs.Shape.{Role, Target, ask, say, frames, field};
 ghost use Rattle.layouts.specs.Pieces.{run, skipOf};
@@ -79,8 +79,9 @@ fn pass_frames(s: &[u8], from: usize) -> Passed
     }
 }
 
-// What follows the number of a field.
+// What follows the number of a field. A position is refused at the number itself.
 fn pass_after(s: &[u8], at: usize, kind: u8, n: u64) -> Passed
+    requires { ⌜ 8 ≤ at ⌝ }
     ensures law { λ r. ⌜ ((role : ℕ) → Passes (now (s .entry)) at (afterNumber kind role n) r) ⌝ }
     ensures on { λ r. ⌜ PastFrom at r ⌝ }
 {
@@ -101,6 +102,12 @@ fn pass_after(s: &[u8], at: usize, kind: u8, n: u64) -> Passed
             return pass_number(s, at);
         }
         return pass_text(s, at);
+    }
+    if kind == table::POSITION {
+        if n == 0 {
+            return Passed::Past(at);
+        }
+        return Passed::Refused(layouts::refuse(layouts::NONZERO_POSITION, at - 8));
     }
     Passed::Past(at)
 }

@@ -11,7 +11,7 @@ use borrow.Author.Tests.{leb-true}
 use Rattle.layouts.specs.declared.Refusal.{Refusal}
 use Rattle.layouts.specs.Primitive.{pick, numberBytes, Result, ok, refused, onward, notOfShape}
 use Rattle.layouts.specs.Refusal.{refusedBy}
-use Rattle.layouts.specs.Shape.{What, num, str, set, pairs, framed, maybe, typed}
+use Rattle.layouts.specs.Shape.{What, num, str, set, pairs, framed, maybe, typed, position}
 use Rattle.layouts.specs.Judge.{lentAfter}
 use Rattle.layouts.specs.Writers.{slotsOf, stringBytes, stringsBytes, framedBytes, textsFrom, writing}
 use Rattle.layouts.specs.CallWriter.{valueFor, isOfShape, stringsIn, entriesFor, fieldBytes, fieldsBytes, shapeBytes, writeBytes}
@@ -62,6 +62,7 @@ module _ (ns p : List ℕ) where
   field-length framed cs = omega arith
   field-length maybe cs = refl
   field-length typed cs = refl
+  field-length position cs = refl
 
   fields-length : (ws : List What) (cs : List (List ℕ)) → length cs ≡ total ns ws → length (fieldsBytes ns p cs ws) ≡ sumOf framed# ws + length (stringsBytes cs)
   unfolding fieldsBytes sumOf total stringsBytes

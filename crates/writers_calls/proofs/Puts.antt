@@ -23,7 +23,7 @@ use Rattle.writers_output.proofs.Laws.{part-tail, put-back, length-placed, then
 use Rattle.writers_sets.specs.Sets.{partsFrom, stringsPut}
 use Rattle.writers_sets.proofs.Sets.{strings-put}
 use Rattle.writers_fields.specs.Fields.{fieldsAt, whatIn, hasNumber, targetBy, stringsBy, stringsAfter}
-use Rattle.writers_fields.proofs.Laws.{Next, next, Kinded, text, set, pairs, frames, maybe, typed, absent, number, kinded, entries-by}
+use Rattle.writers_fields.proofs.Laws.{Next, next, Kinded, text, set, pairs, frames, maybe, typed, position, absent, number, kinded, entries-by}
 use Rattle.writers_calls.specs.Calls.{numberBy, framesBy, itemBytes, fieldsFrom, Planned, usedOr}
 
 -- ---- an item
@@ -48,10 +48,11 @@ module _ (ns p b es : List ℕ) (role target i : ℕ) (ws : List What) where
   item-by frames m e = rw (e, no-strings)
   item-by maybe m e = rw (e, no-strings)
   item-by typed m e = rw (e, no-strings)
+  item-by position m e = rw (e, no-strings)
   item-by absent m e = rw (e, no-strings) same-place
   item-by (number k o) m e =
       let a : stringsBy k (valueFor ns (targetOf (targetBy k target))) ≡ 0 = rw (o .no-text, o .no-set, o .no-pairs) in
-      rw (e ∙ a, no-strings, o .no-text, o .no-set, o .no-pairs, o .no-frames, o .no-maybe, o .no-typed, o .no-absent, append-nil)
+      rw (e ∙ a, no-strings, o .no-text, o .no-set, o .no-pairs, o .no-frames, o .no-maybe, o .no-typed, o .no-position, o .no-absent, append-nil)
 
   -- the entries after it, where all of them are there
   record Step (slots used kind n j : ℕ) : Type 0 where

@@ -93,9 +93,10 @@ pub record Plain (k : ℕ) : Type 0 where
   pub no-frames : eqb k 5 ≡ false
   pub no-maybe : eqb k 6 ≡ false
   pub no-typed : eqb k 7 ≡ false
+  pub no-position : eqb k 8 ≡ false
   pub no-absent : eqb k 16 ≡ false
 
--- a string, a set, pairs, framed data, a flag with a number, a type with what follows, an absent field; any other is a number
+-- a string, a set, pairs, framed data, a flag with a number, a type with what follows, a position, an absent field; any other is a number
 pub data Kinded : ℕ → Type 0 where
   text : Kinded 2
   set : Kinded 3
@@ -103,12 +104,13 @@ pub data Kinded : ℕ → Type 0 where
   frames : Kinded 5
   maybe : Kinded 6
   typed : Kinded 7
+  position : Kinded 8
   absent : Kinded 16
   number : (k : ℕ) → Plain k → Kinded k
 
 pub kinded : (k : ℕ) → Kinded k
 kinded k =
-    or 2 text (λ a. or 3 set (λ b. or 4 pairs (λ c. or 5 frames (λ d. or 6 maybe (λ e. or 7 typed (λ f. or 16 absent (λ g.
+    or 2 text (λ a. or 3 set (λ b. or 4 pairs (λ c. or 5 frames (λ d. or 6 maybe (λ e. or 7 typed (λ f. or 8 position (λ h. or 16 absent (λ g.
     number k record {
       no-text = ne-eqb k 2 a;
       no-set = ne-eqb k 3 b;
@@ -116,8 +118,9 @@ kinded k =
       no-frames = ne-eqb k 5 d;
       no-maybe = ne-eqb k 6 e;
       no-typed = ne-eqb k 7 f;
+      no-position = ne-eqb k 8 h;
       no-absent = ne-eqb k 16 g;
-    })))))))
+    }))))))))
   where
     by : (j : ℕ) → Kinded j → ((k ≡ j → ⊥) → Kinded k) → Dec (k ≡ j) → Kinded k
     by j y n (yes e) = subst Kinded (sym e) y
@@ -135,8 +138,9 @@ module _ (ns : List ℕ) (role target : ℕ) (ws : List What) where
   left-by frames l = refl
   left-by maybe l = refl
   left-by typed l = refl
+  left-by position l = refl
   left-by absent l = refl
-  left-by (number k o) l = rw (o .no-text, o .no-set, o .no-pairs, o .no-frames, o .no-maybe, o .no-typed, o .no-absent)
+  left-by (number k o) l = rw (o .no-text, o .no-set, o .no-pairs, o .no-frames, o .no-maybe, o .no-typed, o .no-position, o .no-absent)
 
   pub frames-by : {k : ℕ} → Kinded k → hasFrames (whatIn k role target ++ ws) ≡ (eqb k 5 || hasFrames ws)
   unfolding hasFrames whatIn whatOf
@@ -146,8 +150,9 @@ module _ (ns : List ℕ) (role target : ℕ) (ws : List What) where
   frames-by frames = refl
   frames-by maybe = refl
   frames-by typed = refl
+  frames-by position = refl
   frames-by absent = refl
-  frames-by (number k o) = rw (o .no-text, o .no-set, o .no-pairs, o .no-frames, o .no-maybe, o .no-typed, o .no-absent)
+  frames-by (number k o) = rw (o .no-text, o .no-set, o .no-pairs, o .no-frames, o .no-maybe, o .no-typed, o .no-position, o .no-absent)
 
   grown-none : (room t : ℕ) → grown room t 0 ≡ t
   grown-none room t = go (ltb room t)
@@ -164,8 +169,9 @@ module _ (ns : List ℕ) (role target : ℕ) (ws : List What) where
   bytes-by frames room f t = refl
   bytes-by maybe room f t = refl
   bytes-by typed room f t = refl
+  bytes-by position room f t = refl
   bytes-by absent room f t = ap (λ (n : ℕ). bytesAfter room f n ws) (sym (grown-none room t))
-  bytes-by (number k o) room f t = rw (o .no-text, o .no-set, o .no-pairs, o .no-frames, o .no-maybe, o .no-typed, o .no-absent)
+  bytes-by (number k o) room f t = rw (o .no-text, o .no-set, o .no-pairs, o .no-frames, o .no-maybe, o .no-typed, o .no-position, o .no-absent)
 
   module _ (slots n : ℕ) (h : n ≤ slots) where
     fit-same : (m : ℕ) → leb (n + m) slots ≡ leb m (slots - n)
@@ -196,6 +202,7 @@ module _ (ns : List ℕ) (role target : ℕ) (ws : List What) where
     entries-by frames = used 0 0
     entries-by maybe = used 0 0
     entries-by typed = used 0 0
+    entries-by position = used 0 0
     entries-by absent = unused 0
     entries-by (number k o) =
-        rw (o .no-text, o .no-set, o .no-pairs, o .no-frames, o .no-maybe, o .no-typed, o .no-absent) (used 0 (valueFor ns (targetOf target)))
+        rw (o .no-text, o .no-set, o .no-pairs, o .no-frames, o .no-maybe, o .no-typed, o .no-position, o .no-absent) (used 0 (valueFor ns (targetOf target)))

@@ -4,7 +4,7 @@ use mathlib.Core.List.{List, [], _∷_}
 use mathlib.Core.Bool.{Bool, not, _&&_}
 use lib.Dec.{ltb, leb, eqb}
 use Rattle.layouts.specs.Primitive.{pick, Version, noSuchEntry, Result, ok, refused}
-use Rattle.layouts.specs.Shape.{What, num, str, set, pairs, framed, maybe, typed}
+use Rattle.layouts.specs.Shape.{What, num, str, set, pairs, framed, maybe, typed, position}
 use Rattle.layouts.specs.CallWriter.{fieldsThere}
 use Rattle.table.specs.Table.{roleOf, targetOf, whatOf, itemsAt}
 use Rattle.walk_items.specs.Items.{versionOf}
@@ -19,7 +19,7 @@ unfoldable pub whatIn : (kind role target : ℕ) → List What
 whatIn k r t = pick (eqb k 16) [] (whatOf k (roleOf r) (targetOf t) ∷ [])
 
 abbrev pub hasNumber : (kind : ℕ) → Bool
-hasNumber k = (((not (eqb k 2) && not (eqb k 5)) && not (eqb k 6)) && not (eqb k 7)) && not (eqb k 16)
+hasNumber k = ((((not (eqb k 2) && not (eqb k 5)) && not (eqb k 6)) && not (eqb k 7)) && not (eqb k 8)) && not (eqb k 16)
 
 abbrev pub targetBy : (kind target : ℕ) → ℕ
 targetBy k t = pick (hasNumber k) t 0
@@ -51,6 +51,7 @@ bytesOf f (pairs m t) = 8
 bytesOf f framed = f
 bytesOf f maybe = 0
 bytesOf f typed = 0
+bytesOf f position = 0
 
 -- after a total, up to the room
 unfoldable pub bytesAfter : (room framed total : ℕ) → List What → ℕ

@@ -23,6 +23,7 @@ pub fn has_number(kind: u8) -> bool
         & (kind != table::FRAMES)
         & (kind != table::MAYBE)
         & (kind != table::TYPED)
+        & (kind != table::POSITION)
         & (kind != walk_items::QUIET)
 }
 

@@ -103,7 +103,7 @@ impl Answer<'_> {
 /// Why a call refused, and where. Nothing that was lent has changed.
 #[derive(Debug, Clone, Copy, PartialEq, Eq, Hash)]
 pub struct Refusal {
-    /// 1 to 14; [`Refusal::meaning`] says what it means.
+    /// 1 to 15; [`Refusal::meaning`] says what it means.
     pub number: u64,
     /// The place in the part of the stream that was given; of refusals 11 and 12, and of a set or call that is written, an index or a count.
     /// Of 3 it is where the string's text ends: cut there, the stream is refused by 1 at the string's contents.
@@ -129,6 +129,7 @@ impl Refusal {
             12 => "bad entry: start + length passes the end of the bytes",
             13 => "no arguments: none are known for this operation and version",
             14 => "not of the shape: a number, flag, count or payload that the shape or version lacks isn't 0 or empty, or a flag is above 1",
+            15 => "nonzero position: a position in an error block isn't 0",
             _ => "a number without a meaning",
         }
     }

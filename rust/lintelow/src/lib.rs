@@ -6,7 +6,7 @@
 //!
 //! A reader takes the part of a stream that starts where the last call ended, and answers with what it read and where that ended, or with a
 //! [`Refusal`]: a number, a place in that part, and for a handshake the stream. An operation is its number; one that the library does not know is
-//! refused by 9. [`write_op_args`] is the other way for calls. What reads, skips or writes arguments takes a [`Mode`] first.
+//! refused by 9. [`write_op_args`] is the other way for calls. What reads, skips or writes arguments, and what reads an error, takes a [`Mode`] first.
 //!
 //! ```
 //! use lintelow::{read_daemon_result, ResultData, Version};

@@ -39,7 +39,17 @@ extern "C" {
         block_len: usize,
     ) -> u64;
     fn lintelow_read_stderr_loop(s: *const u8, s_len: usize, block: *mut u8, block_len: usize) -> u64;
-    fn lintelow_read_stderr_with_error(s: *const u8, s_len: usize, entries: *mut u8, entries_len: usize, block: *mut u8, block_len: usize) -> u64;
+    fn lintelow_read_stderr_with_error(
+        mode: u8,
+        major: u16,
+        minor: u8,
+        s: *const u8,
+        s_len: usize,
+        entries: *mut u8,
+        entries_len: usize,
+        block: *mut u8,
+        block_len: usize,
+    ) -> u64;
     fn lintelow_parse_handshake(
         client: *const u8,
         client_len: usize,
@@ -187,10 +197,13 @@ pub fn read_stderr_loop(s: &[u8]) -> Result<Answer<'static>, Refusal> {
 
 /// The same, and behind Error its block.
 #[inline]
-pub fn read_stderr_with_error<'r>(s: &[u8], entries: &'r mut [u8]) -> Result<Answer<'r>, Refusal> {
+pub fn read_stderr_with_error<'r>(mode: Mode, version: Version, s: &[u8], entries: &'r mut [u8]) -> Result<Answer<'r>, Refusal> {
+    let Version { major, minor } = version;
     // SAFETY: as said above.
     let block = unsafe {
-        Block::of(|block, length| lintelow_read_stderr_with_error(s.as_ptr(), s.len(), entries.as_mut_ptr(), entries.len(), block, length))
+        Block::of(|block, length| {
+            lintelow_read_stderr_with_error(mode as u8, major, minor, s.as_ptr(), s.len(), entries.as_mut_ptr(), entries.len(), block, length)
+        })
     };
     block.answer(entries, &[])
 }

@@ -63,17 +63,30 @@ pub fn read_stderr_loop(stream: &[u8]) -> Result<(StderrResult, usize), Refusal>
 }
 
 /// The same, with what follows an Error, which is part of what was read then.
-pub fn read_stderr_with_error(stream: &[u8]) -> Result<(StderrResult, Option<ErrorInfo>, usize), Refusal> {
+///
+/// ```
+/// use lintelow::{read_stderr_with_error, Mode, Version};
+///
+/// // Error, then a type, a level, a name, a message, a position, which is 0, and a count of traces. Of an empty string there is only its length.
+/// let stream = [0x63787470u64, 0, 3, 0, 0, 0, 0].map(u64::to_le_bytes).concat();
+/// let read = |mode, minor| read_stderr_with_error(mode, Version::new(1, minor), &stream).map(|(_, error, end)| (error.unwrap(), end));
+/// let (error, end) = read(Mode::Published, 38)?;
+/// assert_eq!((error.level, error.traces.len(), error.exit_status, end), (3, 0, None, 56));
+///
+/// // Below 1.26 a daemon sends a message and its exit status.
+/// let (error, end) = read(Mode::Published, 25)?;
+/// assert_eq!((error.level, error.exit_status, end), (0, Some(3), 24));
+///
+/// // To nix-wire an error ends at its position, so the count of traces is left over.
+/// let (error, end) = read(Mode::Ported, 38)?;
+/// assert_eq!((error.level, end), (3, 48));
+/// # Ok::<(), lintelow::Refusal>(())
+/// ```
+pub fn read_stderr_with_error(mode: Mode, version: Version, stream: &[u8]) -> Result<(StderrResult, Option<ErrorInfo>, usize), Refusal> {
     with_room(stream.len(), |entries, _| {
-        let answer = raw::read_stderr_with_error(stream, entries)?;
+        let answer = raw::read_stderr_with_error(mode, version, stream, entries)?;
         let result = stderr_result(&answer);
-        let mut strings = Strings::new(stream, &answer);
-        let error = (result.terminal == Some(StderrCode::Error)).then(|| ErrorInfo {
-            error_type: strings.one(),
-            level: answer.numbers[2],
-            name: strings.one(),
-            message: strings.one(),
-        });
+        let error = (result.terminal == Some(StderrCode::Error)).then(|| error_info(stream, &answer));
         Ok((result, error, answer.end))
     })
 }
@@ -251,6 +264,23 @@ fn path_info(strings: &mut Strings, answer: &Answer) -> PathInfoResult {
 fn stderr_result(answer: &Answer) -> StderrResult {
     let codes = [StderrCode::Last, StderrCode::Error];
     StderrResult { count: answer.numbers[0], terminal: codes.into_iter().find(|&code| code as u64 == answer.numbers[1]) }
+}
+
+fn error_info(stream: &[u8], answer: &Answer) -> ErrorInfo {
+    let strings = &mut Strings::new(stream, answer);
+    let number = answer.numbers[2];
+    match answer.kind {
+        0 | 1 => ErrorInfo {
+            error_type: strings.one(),
+            level: number,
+            name: strings.one(),
+            message: strings.one(),
+            traces: strings.set(answer.counts[0]),
+            exit_status: None,
+        },
+        2 => ErrorInfo { message: strings.one(), exit_status: Some(number), ..ErrorInfo::default() },
+        kind => unreachable!("the library has no kind {kind} of error"),
+    }
 }
 
 fn handshake_info(client: &[u8], daemon: &[u8], answer: &Answer) -> HandshakeInfo {

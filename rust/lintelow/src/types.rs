@@ -1,5 +1,5 @@
 //! What streams say, under nix-wire's names. Where nix-wire has an `Op` there is the operation's number, where it has `FramedData` the bytes, and for
-//! a build's mode its number. The two variants of [`OpCall`] that only [`Mode::Published`] has are ours.
+//! a build's mode its number. The two variants of [`OpCall`] and the two fields of [`ErrorInfo`] that only [`Mode::Published`] has are ours.
 use std::fmt;
 
 /// A version of the protocol; they compare by major, then minor.
@@ -21,14 +21,14 @@ impl fmt::Display for Version {
     }
 }
 
-/// Whose layouts arguments have. They differ in two operations: there daemons read more than nix-wire, which loses the stream.
+/// Whose layouts arguments and errors have. They differ in two operations and in all errors: there nix-wire loses the stream.
 #[derive(Debug, Clone, Copy, PartialEq, Eq, Hash)]
 #[repr(u8)]
 pub enum Mode {
     /// Those of nix-wire.
     Ported = 0,
-    /// Those that daemons read: 30 has pairs from 1.22 on, in place of a set ([`OpCall::QuerySubstitutablePairs`]), and 42 has two strings below 1.31, in
-    /// place of one ([`OpCall::RegisterDrvOutputOld`]).
+    /// Those of daemons: 30 has pairs from 1.22 on, in place of a set ([`OpCall::QuerySubstitutablePairs`]), and 42 has two strings below 1.31, in place of
+    /// one ([`OpCall::RegisterDrvOutputOld`]); an error has traces from 1.26 on, and below it is a message and an exit status ([`ErrorInfo`]).
     Published = 1,
 }
 
@@ -251,13 +251,18 @@ pub struct StderrResult {
     pub terminal: Option<StderrCode>,
 }
 
-/// What follows [`StderrCode::Error`].
-#[derive(Debug, Clone, PartialEq, Eq)]
+/// What follows [`StderrCode::Error`]. In [`Mode::Published`] below 1.26 an error has only `message` and `exit_status`: type and name are empty, and the
+/// level is 0.
+#[derive(Debug, Clone, PartialEq, Eq, Default)]
 pub struct ErrorInfo {
     pub error_type: String,
     pub level: u64,
     pub name: String,
     pub message: String,
+    /// Those of [`Mode::Published`] from 1.26 on, in the stream's order; else empty.
+    pub traces: Vec<String>,
+    /// That of [`Mode::Published`] below 1.26; else `None`.
+    pub exit_status: Option<u64>,
 }
 
 /// What client and daemon said of themselves.

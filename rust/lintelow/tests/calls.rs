@@ -8,6 +8,11 @@ const NEW: Version = Version::new(1, 38);
 const OLD: Version = Version::new(1, 9);
 const MODES: [Mode; 2] = [Mode::Ported, Mode::Published];
 
+/// The codes of messages.
+const LAST: u64 = 0x616c7473;
+const ERROR: u64 = 0x63787470;
+const NEXT: u64 = 0x6f6c6d67;
+
 fn owned(list: &[&str]) -> Vec<String> {
     list.iter().map(|text| text.to_string()).collect()
 }
@@ -224,20 +229,154 @@ fn skipped_arguments_of_every_kind() {
 
 #[test]
 fn messages_and_errors() {
-    let (last, error, next) = (0x616c7473, 0x63787470, 0x6f6c6d67);
     let quiet = StderrResult { count: 0, terminal: None };
     assert_eq!(read_stderr_loop(b"12345"), Ok((quiet, 0)));
     assert_eq!(read_stderr_loop(&numbers(&[0, 1])), Ok((quiet, 0)));
     let done = StderrResult { count: 2, terminal: Some(StderrCode::Last) };
-    assert_eq!(read_stderr_loop(&numbers(&[next, 0, last])), Ok((done, 24)));
-    assert_eq!(read_stderr_with_error(&numbers(&[next, 0, last])), Ok((done, None, 24)));
+    assert_eq!(read_stderr_loop(&numbers(&[NEXT, 0, LAST])), Ok((done, 24)));
+    for mode in MODES {
+        for version in [OLD, NEW] {
+            assert_eq!(read_stderr_with_error(mode, version, b"12345"), Ok((quiet, None, 0)));
+            assert_eq!(read_stderr_with_error(mode, version, &numbers(&[NEXT, 0, LAST])), Ok((done, None, 24)));
+        }
+    }
 
     let block = [string("Error"), numbers(&[3]), string("name"), string("it failed"), numbers(&[1]), string("file"), numbers(&[4, 5])].concat();
-    let stream = [numbers(&[error]), block].concat();
+    let stream = [numbers(&[ERROR]), block].concat();
     let failed = StderrResult { count: 1, terminal: Some(StderrCode::Error) };
-    let info = ErrorInfo { error_type: "Error".into(), level: 3, name: "name".into(), message: "it failed".into() };
+    let info =
+        ErrorInfo { error_type: "Error".into(), level: 3, name: "name".into(), message: "it failed".into(), traces: vec![], exit_status: None };
     assert_eq!(read_stderr_loop(&stream), Ok((failed, 8)));
-    assert_eq!(read_stderr_with_error(&stream), Ok((failed, Some(info), stream.len())));
+    for version in [OLD, NEW] {
+        assert_eq!(read_stderr_with_error(Mode::Ported, version, &stream), Ok((failed, Some(info.clone()), stream.len())));
+    }
+}
+
+/// A message, then Error with what daemons send from 1.26 on.
+fn traced(traces: &[&str]) -> Vec<u8> {
+    let mut stream = [numbers(&[NEXT]), string("log"), numbers(&[ERROR])].concat();
+    stream.extend([string("Error"), numbers(&[3]), string("name"), string("it failed"), numbers(&[0, traces.len() as u64])].concat());
+    traces.iter().for_each(|trace| stream.extend([numbers(&[0]), string(trace)].concat()));
+    stream
+}
+
+/// Where the message's contents stand, the error's position, and that of the first trace.
+const MESSAGE: usize = 80;
+const POSITION: usize = 96;
+const TRACE: usize = POSITION + 16;
+
+#[test]
+fn errors_with_traces() {
+    let failed = StderrResult { count: 2, terminal: Some(StderrCode::Error) };
+    for traces in [&[][..], &["while building"], &["", "while building, größer", "\u{1b}[0m"]] {
+        let stream = [traced(traces), numbers(&[LAST])].concat();
+        let end = stream.len() - 8;
+        let without = ErrorInfo { error_type: "Error".into(), level: 3, name: "name".into(), message: "it failed".into(), ..ErrorInfo::default() };
+        let info = ErrorInfo { traces: owned(traces), ..without.clone() };
+        for version in [Version::new(1, 26), NEW, Version::new(2, 0)] {
+            assert_eq!(read_stderr_with_error(Mode::Published, version, &stream), Ok((failed, Some(info.clone()), end)));
+            assert_eq!(read_stderr_with_error(Mode::Ported, version, &stream), Ok((failed, Some(without.clone()), TRACE - 8)));
+        }
+        for length in 32..end {
+            let refusal = read_stderr_with_error(Mode::Published, NEW, &stream[..length]).unwrap_err();
+            assert_eq!((refusal.number, refusal.stream), (1, 0), "cut to {length} bytes");
+        }
+    }
+}
+
+/// Type and name are empty, and the level is 0: the number is the exit status, whatever it is.
+#[test]
+fn errors_below_1_26() {
+    let failed = StderrResult { count: 1, terminal: Some(StderrCode::Error) };
+    for status in [0, 1, 100, u64::MAX] {
+        let stream = [numbers(&[ERROR]), string("it failed"), numbers(&[status, 7])].concat();
+        let message = "it failed".to_string();
+        let info = ErrorInfo { error_type: String::new(), level: 0, name: String::new(), message, traces: vec![], exit_status: Some(status) };
+        for version in [Version::new(1, 25), OLD, Version::new(0, 255)] {
+            assert_eq!(read_stderr_with_error(Mode::Published, version, &stream), Ok((failed, Some(info.clone()), 40)));
+        }
+    }
+}
+
+/// The version decides from 1.26 on, in published mode alone. A stream of zeros behind Error ends at another byte by each of the three.
+#[test]
+fn errors_by_mode_and_version() {
+    let stream = [numbers(&[ERROR]), numbers(&[0; 6])].concat();
+    for (major, minor) in (0..=2).flat_map(|major| (0..=255).map(move |minor| (major, minor))) {
+        let version = Version::new(major, minor);
+        let read = |mode| {
+            let (_, info, end) = read_stderr_with_error(mode, version, &stream).unwrap();
+            (info.unwrap().exit_status, end)
+        };
+        let expected = if version >= Version::new(1, 26) { (None, 56) } else { (Some(0), 24) };
+        assert_eq!((read(Mode::Ported), read(Mode::Published)), ((None, 48), expected), "{version}");
+    }
+}
+
+/// The numbers as they are: kind, level or exit status, count of traces.
+#[test]
+fn errors_as_the_library_answers_them() {
+    let mut entries = [0xa5; 6 * raw::ENTRY];
+    let stream = traced(&["one", "three"]);
+    let answer = raw::read_stderr_with_error(Mode::Published, NEW, &stream, &mut entries).unwrap();
+    assert_eq!((answer.kind, answer.end, answer.end2, answer.counts), (1, stream.len(), 0, [2, 0, 0]));
+    assert_eq!(answer.numbers, [2, ERROR, 3, 0, 0, 0, 0, 0, 0, 0, 0, 0]);
+    let texts: Vec<_> = answer.entries.iter().map(|entry| entry.text(&stream)).collect();
+    assert_eq!(texts, ["Error", "name", "it failed", "one", "three"]);
+    assert_eq!(entries[5 * raw::ENTRY..], [0xa5; raw::ENTRY]);
+
+    let old = [numbers(&[ERROR]), string("it failed"), numbers(&[100])].concat();
+    let answer = raw::read_stderr_with_error(Mode::Published, OLD, &old, &mut entries).unwrap();
+    assert_eq!((answer.kind, answer.end, answer.counts, answer.entries.len()), (2, old.len(), [0; 3], 1));
+    assert_eq!(answer.numbers, [1, ERROR, 100, 0, 0, 0, 0, 0, 0, 0, 0, 0]);
+
+    let answer = raw::read_stderr_with_error(Mode::Ported, NEW, &stream, &mut entries).unwrap();
+    assert_eq!((answer.kind, answer.end, answer.counts, answer.entries.len()), (0, TRACE - 8, [0; 3], 3));
+    let last = raw::read_stderr_with_error(Mode::Published, NEW, &numbers(&[LAST]), &mut []).unwrap();
+    assert_eq!((last.kind, last.end, last.numbers[..3].to_vec()), (0, 8, vec![1, LAST, 0]));
+}
+
+#[test]
+fn positions_that_are_not_0() {
+    let stream = traced(&["one", "three"]);
+    let second = TRACE + 24;
+    let read = |stream: &[u8]| read_stderr_with_error(Mode::Published, NEW, stream).map(|(.., end)| end);
+    assert_eq!(read(&stream), Ok(stream.len()));
+    for place in [POSITION, TRACE, second] {
+        for byte in place..place + 8 {
+            let mut changed = stream.clone();
+            changed[byte] = 0x80;
+            assert_eq!(read(&changed), Err(refused(15, place, 0)));
+            assert_eq!(read(&changed[..place + 7]), Err(refused(1, place, 0)), "cut short");
+            assert_eq!(read(&changed[..place + 8]), Err(refused(15, place, 0)), "and nothing more");
+        }
+    }
+    // What stands before a position is judged before it, and what stands behind it after it.
+    let mut changed = stream.clone();
+    (changed[TRACE], changed[second]) = (1, 1);
+    assert_eq!(read(&changed), Err(refused(15, TRACE, 0)));
+    changed[MESSAGE + 4] = 0xff;
+    assert_eq!(read(&changed), Err(refused(3, MESSAGE + 4, 0)));
+    let mut changed = stream.clone();
+    (changed[TRACE + 17], changed[second]) = (0xff, 1);
+    assert_eq!(read(&changed), Err(refused(3, TRACE + 17, 0)));
+    // Below 1.26 there is none.
+    let old = [numbers(&[ERROR]), string(""), numbers(&[1])].concat();
+    assert_eq!(read_stderr_with_error(Mode::Published, Version::new(1, 25), &old).map(|(.., end)| end), Ok(24));
+}
+
+#[test]
+fn errors_with_too_few_slots() {
+    let stream = traced(&["one", "three"]);
+    for (slots, place) in [(0, 32), (1, 56), (2, 72), (3, TRACE + 8), (4, TRACE + 32)] {
+        for more in [0, raw::ENTRY - 1] {
+            let mut entries = vec![0xa5; slots * raw::ENTRY + more];
+            assert_eq!(raw::read_stderr_with_error(Mode::Published, NEW, &stream, &mut entries), Err(refused(4, place, 0)), "{slots} slots");
+            assert!(entries.iter().all(|&byte| byte == 0xa5));
+        }
+    }
+    let old = [numbers(&[ERROR]), string("it failed"), numbers(&[100])].concat();
+    assert_eq!(raw::read_stderr_with_error(Mode::Published, OLD, &old, &mut [0; raw::ENTRY - 1]), Err(refused(4, 8, 0)));
 }
 
 #[test]
@@ -301,11 +440,16 @@ fn bad_text_is_refused_where_text_ends() {
     const REPLY: u64 = 0x6478696f;
     type Reader = fn(&[u8]) -> Option<Refusal>;
     // What stands before the string, and the stream.
-    let readers: [(Vec<u8>, u64, Reader); 9] = [
+    let readers: [(Vec<u8>, u64, Reader); 14] = [
         (string("suffix"), 0, |s| read_op_args(Mode::Published, 8, NEW, s).err()),
         (vec![], 0, |s| skip_op_args(Mode::Published, 1, NEW, s).err()),
         ([numbers(&[2]), string("first")].concat(), 0, |s| read_daemon_result(6, NEW, s).err()),
-        ([numbers(&[0x63787470]), string("Error"), numbers(&[0]), string("name")].concat(), 0, |s| read_stderr_with_error(s).err()),
+        ([numbers(&[ERROR]), string("Error"), numbers(&[0]), string("name")].concat(), 0, |s| read_stderr_with_error(Mode::Ported, NEW, s).err()),
+        (numbers(&[ERROR]), 0, |s| read_stderr_with_error(Mode::Published, NEW, s).err()),
+        (numbers(&[ERROR, 0, 0]), 0, |s| read_stderr_with_error(Mode::Published, NEW, s).err()),
+        (numbers(&[ERROR, 0, 0, 0]), 0, |s| read_stderr_with_error(Mode::Published, NEW, s).err()),
+        (traced(&["one"])[..TRACE + 8].to_vec(), 0, |s| read_stderr_with_error(Mode::Published, NEW, s).err()),
+        (numbers(&[ERROR]), 0, |s| read_stderr_with_error(Mode::Published, OLD, s).err()),
         (numbers(&[HELLO, 0x126, 1]), 0, |s| parse_handshake(s, &numbers(&[REPLY, 0x126])).err()),
         (numbers(&[REPLY, 0x126, 1]), 1, |s| parse_handshake(&numbers(&[HELLO, 0x126, 0, 0, 0]), s).err()),
         (numbers(&[REPLY, 0x126, 0]), 1, |s| parse_daemon_handshake(NEW, s).err()),
@@ -327,11 +471,11 @@ fn bad_text_is_refused_where_text_ends() {
 fn a_refusal_says_what_it_means() {
     let error: Box<dyn std::error::Error> = Box::new(refused(8, 24, 1));
     assert_eq!(error.to_string(), "refusal 8 at 24 of the daemon's stream: not Last: the handshake's final number differs");
-    let meanings: Vec<_> = (1..=15).map(|number| refused(number, 0, 0).meaning()).collect();
+    let meanings: Vec<_> = (1..=16).map(|number| refused(number, 0, 0).meaning()).collect();
     for (i, meaning) in meanings.iter().enumerate() {
         assert!(!meanings[..i].contains(meaning), "{meaning}");
     }
-    assert_eq!(meanings[14], "a number without a meaning");
+    assert_eq!(meanings[15], "a number without a meaning");
 }
 
 #[test]
@@ -342,6 +486,10 @@ fn room_grows_to_what_is_there() {
 
     let empty = vec![String::new(); 1000];
     assert_eq!(read_daemon_result(6, NEW, &set(&[""; 1000])), Ok((ResultData::StringSet(empty), 8008)));
+
+    let stream = traced(&[""; 10_000]);
+    let (_, info, end) = read_stderr_with_error(Mode::Published, NEW, &stream).unwrap();
+    assert_eq!((info.unwrap().traces, end), (vec![String::new(); 10_000], stream.len()));
 
     let chunk: Vec<u8> = (0..=255).collect();
     let stream = framed(&vec![&chunk[..]; 4000]);
@@ -387,7 +535,9 @@ fn nothing_is_read_and_lent() {
     assert_eq!(raw::read_daemon_result(42, NEW, &[], &mut [], &mut []), Ok(Answer { kind: 0, ..none }));
     assert_eq!(raw::skip_daemon_result(42, NEW, &[]), Ok(Answer { kind: 0, ..none }));
     assert_eq!(raw::read_stderr_loop(&[]), Ok(Answer { kind: 0, ..none }));
-    assert_eq!(raw::read_stderr_with_error(&[], &mut []), Ok(Answer { kind: 0, ..none }));
+    for mode in MODES {
+        assert_eq!(raw::read_stderr_with_error(mode, NEW, &[], &mut []), Ok(Answer { kind: 0, ..none }));
+    }
     assert_eq!(raw::parse_handshake(&[], &[], &mut []), Err(refused(1, 0, 0)));
     assert_eq!(raw::parse_daemon_handshake(NEW, &[], &mut []), Err(refused(1, 0, 1)));
     assert_eq!(raw::read_daemon_result(6, NEW, &set(&[""]), &mut [], &mut []), Err(refused(4, 8, 0)));

@@ -6,7 +6,7 @@ use crate::names;
 use crate::session::*;
 use crate::view::View;
 use lintelow::wire::mode_text;
-use lintelow::StderrCode;
+use lintelow::{ErrorInfo, StderrCode};
 use std::fmt::Write as _;
 use std::io::{self, Write};
 
@@ -55,7 +55,7 @@ fn handshake(handshake: &Handshake) -> Object {
         .raw("client_features", &strings(&info.client_features))
         .raw("daemon_features", &strings(&info.server_features))
         .raw("daemon_nix", &info.daemon_nix_version.as_deref().map_or("null".to_owned(), quoted))
-        .raw("trust", &info.trust_status.map_or("null".to_owned(), |trust| trust.to_string()))
+        .raw("trust", &number_or_null(info.trust_status))
 }
 
 fn call(call: &Call) -> Object {
@@ -78,30 +78,41 @@ fn call(call: &Call) -> Object {
         };
         object = object.raw("messages", &Object::new().range("range", bytes).number("count", *count).raw("terminal", terminal).close());
     }
+    with_outcome(object, call)
+}
+
+/// The object for a call that failed, in a summary.
+pub fn failed(call: &Call) -> String {
+    with_outcome(Object::new().number("call", call.index).number("op", call.op).text("name", names::operation(call.op)), call).close()
+}
+
+fn with_outcome(object: Object, call: &Call) -> Object {
     match &call.outcome {
         None => object,
         Some(Outcome::Reply { bytes, data, payload }) => {
             object.raw("reply", &with_fields(Object::new().range("range", bytes), &fields::of_reply(data, payload)).close())
         }
-        Some(Outcome::Error { bytes, info }) => object.raw(
-            "error",
-            &Object::new()
-                .range("range", bytes)
-                .text("type", &info.error_type)
-                .number("level", info.level)
-                .text("name", &info.name)
-                .text("message", &info.message)
-                .close(),
-        ),
+        Some(Outcome::Error { bytes, info }) => object.raw("error", &error(bytes, info)),
     }
 }
 
+fn error(bytes: &Bytes, info: &ErrorInfo) -> String {
+    Object::new()
+        .range("range", bytes)
+        .text("type", &info.error_type)
+        .number("level", info.level)
+        .text("name", &info.name)
+        .text("message", &info.message)
+        .raw("traces", &strings(&info.traces))
+        .raw("exit_status", &number_or_null(info.exit_status))
+        .close()
+}
+
 fn refused(refused: &Refused) -> Object {
-    let number = |number: Option<u64>| number.map_or("null".to_owned(), |number| number.to_string());
     let told = Object::new()
         .text("event", "refusal")
-        .raw("call", &number(refused.call))
-        .raw("op", &number(refused.op))
+        .raw("call", &number_or_null(refused.call))
+        .raw("op", &number_or_null(refused.op))
         .text("part", part(refused.part))
         .number("refusal", refused.refusal.number)
         .text("meaning", refused.refusal.meaning())
@@ -154,6 +165,10 @@ fn value(value: &Value) -> String {
         Value::Pairs(pairs) => list(pairs.iter().map(|(name, value)| format!("[{},{}]", quoted(name), quoted(value)))),
         Value::Payload(Payload { size, first }) => Object::new().number("size", *size).text("first", &hex::joined(first)).close(),
     }
+}
+
+fn number_or_null(number: Option<u64>) -> String {
+    number.map_or("null".to_owned(), |number| number.to_string())
 }
 
 fn strings(strings: &[String]) -> String {

@@ -9,9 +9,9 @@ usage: show [--json] [--summary] [--full] [--ported] [FOLDER]
 Shows a recorded session between a Nix client and its daemon. FOLDER has client.bin and daemon.bin, the bytes that each of them sent.
 
   --json      one JSON object a line, as docs/SHOW.md says
-  --summary   counts by operation, bytes and refusals; with --json as JSON
+  --summary   counts by operation, bytes and refusals, and the errors; with --json as JSON
   --full      in words: nothing is shortened or left out
-  --ported    reads arguments as nix-wire does, not as daemons do
+  --ported    reads arguments and errors as nix-wire does, not as daemons do
 
 Exit status: 0 the session was read to its end; 1 a refusal; 2 a file or the command line; 3 a call that can't be followed; 4 messages not ended.
 ";

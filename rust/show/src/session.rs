@@ -60,6 +60,15 @@ pub struct Call {
     pub outcome: Option<Outcome>,
 }
 
+impl Call {
+    /// The call with its error alone, where it failed.
+    pub fn failed(&self) -> Option<Call> {
+        let Some(Outcome::Error { bytes, info }) = &self.outcome else { return None };
+        let outcome = Some(Outcome::Error { bytes: bytes.clone(), info: info.clone() });
+        Some(Call { number: self.number.clone(), arguments: None, messages: None, outcome, ..*self })
+    }
+}
+
 #[derive(Debug)]
 pub struct Arguments {
     pub bytes: Bytes,
@@ -244,7 +253,7 @@ impl<'s> Session<'s> {
     /// What follows the message Error, which the library reads together with the messages.
     fn error(&mut self, call: &Call, messages: Bytes) -> Result<Option<Outcome>, Stop> {
         let start = messages.start;
-        let (_, info, end) = self.read(call, Part::Error, start, lintelow::read_stderr_with_error)?;
+        let (_, info, end) = self.read(call, Part::Error, start, |stream| lintelow::read_stderr_with_error(self.mode, call.version, stream))?;
         self.answered = start + end;
         Ok(info.map(|info| Outcome::Error { bytes: messages.end..self.answered, info }))
     }

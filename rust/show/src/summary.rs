@@ -1,4 +1,4 @@
-//! Counts by operation, bytes and what was refused.
+//! Counts by operation, bytes and what was refused; the errors of calls that failed.
 use crate::json::{self, Object};
 use crate::names;
 use crate::session::*;
@@ -59,11 +59,13 @@ pub struct Summary<'s, W> {
     daemon: &'s [u8],
     operations: BTreeMap<u64, Counts>,
     all: Counts,
+    /// Those that failed, each with its error alone.
+    failed: Vec<Call>,
 }
 
 impl<'s, W: Write> Summary<'s, W> {
     pub fn new(out: W, form: Form, client: &'s [u8], daemon: &'s [u8]) -> Summary<'s, W> {
-        Summary { out, form, client, daemon, operations: BTreeMap::new(), all: Counts::default() }
+        Summary { out, form, client, daemon, operations: BTreeMap::new(), all: Counts::default(), failed: Vec::new() }
     }
 
     fn table(&mut self) -> io::Result<()> {
@@ -85,6 +87,7 @@ impl<'s, W: Write> Summary<'s, W> {
             .text("event", "summary")
             .raw("operations", &json::list(self.operations.iter().map(operation)))
             .raw("all", &told(Object::new(), &self.all).close())
+            .raw("failed", &json::list(self.failed.iter().map(json::failed)))
             .number("client_bytes", self.client.len() as u64)
             .number("daemon_bytes", self.daemon.len() as u64)
             .close()
@@ -103,12 +106,15 @@ impl<W: Write> View for Summary<'_, W> {
             Event::Call(call) => {
                 self.operations.entry(call.op).or_default().add(call);
                 self.all.add(call);
+                self.failed.extend(call.failed());
                 Ok(())
             }
             last => match self.form {
                 Form::Words(style) => {
                     self.table()?;
-                    Words::new(&mut self.out, style, self.client, self.daemon).event(last)
+                    let mut words = Words::new(&mut self.out, style, self.client, self.daemon);
+                    self.failed.iter().try_for_each(|call| words.call(call))?;
+                    words.event(last)
                 }
                 Form::Json => {
                     let summary = self.object();

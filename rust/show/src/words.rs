@@ -6,7 +6,7 @@ use crate::session::*;
 use crate::text;
 use crate::view::View;
 use lintelow::wire::mode_text;
-use lintelow::{StderrCode, Version};
+use lintelow::{ErrorInfo, StderrCode, Version};
 use std::io::{self, Write};
 
 /// A set or a map is cut after this many lines.
@@ -67,7 +67,7 @@ impl<'s, W: Write> Words<'s, W> {
         Ok(())
     }
 
-    fn call(&mut self, call: &Call) -> io::Result<()> {
+    pub fn call(&mut self, call: &Call) -> io::Result<()> {
         let title = self.bold(&format!("call {}: {} {}", call.index, call.op, names::operation(call.op)));
         let place = self.dim(&format!("version {}, client {}", call.version, bytes(&call.number)));
         writeln!(self.out, "\n{title}  {place}")?;
@@ -86,14 +86,23 @@ impl<'s, W: Write> Words<'s, W> {
         match &call.outcome {
             None => Ok(()),
             Some(Outcome::Reply { bytes, data, payload }) => self.part("reply", Side::Daemon, bytes, &fields::of_reply(data, payload)),
-            Some(Outcome::Error { bytes, info }) => {
-                let fields = vec![("type", Value::Text(&info.error_type)), ("level", Value::Number(&info.level)), ("name", Value::Text(&info.name))];
-                self.part("error", Side::Daemon, bytes, &Fields { kind: "Error", fields })?;
-                // Never shortened: it is what an error is looked at for.
-                let message = self.red(&text::visible(&info.message));
-                writeln!(self.out, "    message {message}")
-            }
+            Some(Outcome::Error { bytes, info }) => self.error(bytes, info),
         }
+    }
+
+    fn error(&mut self, range: &Bytes, info: &ErrorInfo) -> io::Result<()> {
+        let fields = match &info.exit_status {
+            Some(status) => vec![("exit_status", Value::Number(status))],
+            None => vec![("type", Value::Text(&info.error_type)), ("level", Value::Number(&info.level)), ("name", Value::Text(&info.name))],
+        };
+        self.part("error", Side::Daemon, range, &Fields { kind: "Error", fields })?;
+        // Message and traces are never shortened: they are what an error is looked at for.
+        let message = self.red(&text::visible(&info.message));
+        writeln!(self.out, "    message {message}")?;
+        for trace in &info.traces {
+            writeln!(self.out, "    trace {}", text::visible(trace))?;
+        }
+        Ok(())
     }
 
     fn refused(&mut self, refused: &Refused) -> io::Result<()> {

@@ -22,7 +22,7 @@ fn bytes(cell: &str) -> Vec<u8> {
 
 const MODES: [Mode; 2] = [Mode::Ported, Mode::Published];
 
-/// A call as the tables write it: its name and, but for messages, operation and version.
+/// A call as the tables write it: its name, its operation but for errors, and its version.
 struct Call<'c> {
     name: &'c str,
     op: u64,
@@ -32,9 +32,13 @@ struct Call<'c> {
 impl Call<'_> {
     fn of(cell: &str) -> Call<'_> {
         let words: Vec<&str> = cell.split(' ').collect();
-        let [name, op, version] = words[..] else { return Call { name: cell, op: 0, version: Version::new(0, 0) } };
+        let (name, op, version) = match words[..] {
+            [name, op, version] => (name, op.parse().unwrap(), version),
+            [name, version] => (name, 0, version),
+            _ => panic!("a table has a call {cell}"),
+        };
         let (major, minor) = version.split_once('.').unwrap();
-        Call { name, op: op.parse().unwrap(), version: Version::new(major.parse().unwrap(), minor.parse().unwrap()) }
+        Call { name, op, version: Version::new(major.parse().unwrap(), minor.parse().unwrap()) }
     }
 
     /// What it answers over a stream, as the tables write it.
@@ -47,7 +51,9 @@ impl Call<'_> {
             },
             "skip_op_args" => told(skip_op_args(mode, op, version, stream), stream),
             "read_daemon_result" => told(read_daemon_result(op, version, stream), stream),
-            "read_stderr_with_error" => told(read_stderr_with_error(stream).map(|(_, info, end)| (info.expect("an error"), end)), stream),
+            "read_stderr_with_error" => {
+                told(read_stderr_with_error(mode, version, stream).map(|(_, info, end)| (info.expect("an error"), end)), stream)
+            }
             other => panic!("a table has a call {other}"),
         }
     }
@@ -76,7 +82,7 @@ fn what_published_mode_reads() {
         let (call, stream) = (Call::of(&row[5]), bytes(&row[6]));
         assert_eq!(MODES.map(|mode| call.answer(mode, &stream)), row[7..9], "{row:?}");
     }
-    assert_eq!(rows.len(), 6, "rows of the table");
+    assert_eq!(rows.len(), 11, "rows of the table");
 }
 
 #[test]
@@ -88,7 +94,7 @@ fn what_both_modes_read_as_the_rust_does() {
             assert_eq!(call.answer(mode, &stream), row[7], "{mode:?}: {row:?}");
         }
     }
-    assert_eq!(rows.len(), 14, "rows of the table");
+    assert_eq!(rows.len(), 13, "rows of the table");
 }
 
 /// Each mode writes what it reads, and refuses the call of the other.

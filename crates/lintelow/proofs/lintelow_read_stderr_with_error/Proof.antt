@@ -12,9 +12,10 @@ lintelow-read-stderr-with-error-spec =
     (λ c. called-short answerAs _ _ _ _ (c .if1 .taken))
     (λ c κs. search needs)
     (λ c κs. search needs)
+    (λ c κs. search needs)
     (λ c. search needs)
     (λ c. search needs)
     (λ c.
-    let (at-else1, at-read-stderr-with-error-bytes, at-put) : tie.Else1 × tie.After-read-stderr-with-error-bytes × tie.After-put = search in
-    called-long answerAs _ _ _ _ (at-else1 .if1 .left) _ (at-read-stderr-with-error-bytes .read-stderr-with-error-bytes .ensures .0) _ _ (at-put .put .ensures) _
-    (at-read-stderr-with-error-bytes .read-stderr-with-error-bytes .ensures .1)))
+    let (at-else1, at-mode, at-read-stderr-with-error-bytes, at-put) : tie.Else1 × tie.After-mode × tie.After-read-stderr-with-error-bytes × tie.After-put = search in
+    let e = rw (at-mode .mode .ensures) at (at-read-stderr-with-error-bytes .read-stderr-with-error-bytes .ensures) in
+    called-long answerAs _ _ _ _ (at-else1 .if1 .left) _ (e .0) _ _ (at-put .put .ensures) _ (e .1)))

@@ -11,7 +11,8 @@ pub read-stderr-with-error-spec : {M : Type 1} → statement M
 read-stderr-with-error-spec =
     tie.close
     (tie.spec
+    (λ c κs. search needs)
     (λ c. search needs)
     (λ c κs. search needs)
     (λ c. search needs)
-    (λ c. let (at-start, at-read) : tie.Start × tie.After-read = search in error-words _ _ (now (at-start .args .entries)) _ [] _ (at-read .read .ensures) refl))
+    (λ c. let (at-start, at-error-kind, at-read) : tie.Start × tie.After-error-kind × tie.After-read = search in error-words _ _ _ (now (at-start .args .entries)) _ [] _ (at-read .read .ensures) _ (at-error-kind .error-kind .ensures) refl))

@@ -3,7 +3,7 @@ use borrow.Author.Needs.{needs}
 use Rattle.walk_fill.proofs.fill_after.Statement.{statement}
 use Rattle.walk_fill.proofs.fill_after.Tie as tie
 use native.Mathlib.Omega.{arith}
-use Rattle.walk_fill.proofs.Folding.{set-after, pairs-after, typed-after, type-after, true-after, false-after, nothing-after}
+use Rattle.walk_fill.proofs.Folding.{set-after, pairs-after, typed-after, type-after, true-after, false-after, zero-after, position-after, nothing-after}
 
 pub fill-after-spec : {M : Type 1} → statement M
 fill-after-spec =
@@ -36,4 +36,6 @@ fill-after-spec =
     (λ c.
     let (at-then5, at-else6, at-fill-series3) : tie.Then5 × tie.Else6 × tie.After-fill-series3 = search in
     (typed-after _ _ _ _ _ _ _ _ _ _ _ (at-fill-series3 .fill-series3 .result) (at-then5 .if5 .taken) (at-else6 .if6 .left) (at-fill-series3 .fill-series3 .ensures .0), at-fill-series3 .fill-series3 .ensures .1))
+    (λ c. (search zero-after, omega arith))
+    (λ c. let at-start : tie.Start = search in (search position-after, at-start .pre))
     (λ c. (search nothing-after, omega arith)))

@@ -3,7 +3,7 @@ use borrow.Author.Needs.{needs}
 use Rattle.walk_judge.proofs.judge_after.Statement.{statement}
 use Rattle.walk_judge.proofs.judge_after.Tie as tie
 use native.Mathlib.Omega.{arith}
-use Rattle.walk_judge.proofs.Feeding.{took-from, set-after, pairs-after, true-after, type-after, typed-after, false-after, nothing-after}
+use Rattle.walk_judge.proofs.Feeding.{took-from, set-after, pairs-after, true-after, type-after, typed-after, false-after, zero-after, position-after, nothing-after}
 
 pub judge-after-spec : {M : Type 1} → statement M
 judge-after-spec =
@@ -24,4 +24,8 @@ judge-after-spec =
     (type-after _ _ _ _ _ _ _ _ _ _ (at-then5 .if5 .taken) (c .before .if6 .taken) (c .drop-number2 .ensures .0 _ _), took-from _ _ (c .drop-number2 .result) (c .drop-number2 .ensures .1)))
     (λ c κs. search needs)
     (λ c. (search typed-after, took-from _ _ (c .judge-text .result) (c .judge-text .ensures .1)))
+    (λ c. (zero-after _ _ _ _ _ _ _ _ (c .before .if7 .taken) (c .if8 .taken), omega arith))
+    (λ c. let at-start : tie.Start = search in omega (arith, at-start .pre))
+    (λ c κs. search needs)
+    (λ c. let at-then7 : tie.Then7 = search in (position-after _ _ _ _ _ _ _ _ (at-then7 .if7 .taken) (c .before .if8 .left) _ (c .refuse .ensures), tt))
     (λ c. (search nothing-after, omega arith)))

@@ -4,7 +4,7 @@ use Rattle.walk_pass.proofs.pass_after.Statement.{statement}
 use Rattle.walk_pass.proofs.pass_after.Tie as tie
 use denote.Ref.{now}
 use native.Mathlib.Omega.{arith}
-use Rattle.walk_pass.proofs.Passing.{took-past, set-after, pairs-after, true-after, type-after, typed-after, false-after, nothing-after}
+use Rattle.walk_pass.proofs.Passing.{took-past, set-after, pairs-after, true-after, type-after, typed-after, false-after, zero-after, position-after, nothing-after}
 
 pub pass-after-spec : {M : Type 1} → statement M
 pass-after-spec =
@@ -33,6 +33,12 @@ pass-after-spec =
       typed-after (now (at-start .args .s)) _ _ _ (c .pass-text .result) (at-then5 .if5 .taken) (c .before .if6 .left) (c .pass-text .ensures .0),
       took-past (now (at-start .args .s)) _ (c .pass-text .result) (c .pass-text .ensures .1),
     ))
+    (λ c. let at-start : tie.Start = search in (zero-after (now (at-start .args .s)) _ _ _ (c .before .if7 .taken) (c .if8 .taken), omega arith))
+    (λ c. let at-start : tie.Start = search in omega (arith, at-start .pre))
+    (λ c κs. search needs)
     (λ c.
-    let (at-start, at-else1, at-else2) : tie.Start × tie.Else1 × tie.Else2 = search in
-    (nothing-after (now (at-start .args .s)) _ _ _ (at-else1 .if1 .left) (at-else2 .if2 .left) (c .before .if3 .left) (c .if5 .left), omega arith)))
+    let (at-start, at-then7) : tie.Start × tie.Then7 = search in
+    (position-after (now (at-start .args .s)) _ _ _ (at-then7 .if7 .taken) (c .before .if8 .left) (c .refuse .result) (c .refuse .ensures), tt))
+    (λ c.
+    let (at-start, at-else1, at-else2, at-else3) : tie.Start × tie.Else1 × tie.Else2 × tie.Else3 = search in
+    (nothing-after (now (at-start .args .s)) _ _ _ (at-else1 .if1 .left) (at-else2 .if2 .left) (at-else3 .if3 .left) (c .before .if5 .left) (c .if7 .left), omega arith)))

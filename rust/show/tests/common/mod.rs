@@ -14,7 +14,7 @@ pub fn names() -> Vec<String> {
     let folders = fs::read_dir(captures()).unwrap().map(|entry| entry.unwrap()).filter(|entry| entry.path().is_dir());
     let mut names: Vec<String> = folders.map(|entry| entry.file_name().into_string().unwrap()).collect();
     names.sort();
-    assert_eq!(names.len(), 17, "folders of captures/");
+    assert_eq!(names.len(), 19, "folders of captures/");
     names
 }
 
@@ -63,6 +63,7 @@ pub fn number_after(line: &str, text: &str) -> Option<usize> {
 }
 
 pub const LAST: u64 = 0x616c7473;
+pub const ERROR: u64 = 0x63787470;
 
 pub fn numbers(numbers: &[u64]) -> Vec<u8> {
     numbers.iter().flat_map(|number| number.to_le_bytes()).collect()
