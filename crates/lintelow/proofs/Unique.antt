@@ -43,7 +43,8 @@ pub read-stderr-loop-unique : (κs : Lfts 2) (a : Dens κs read-stderr-loop-kind
 read-stderr-loop-unique κs a r r′ x x′ p q = (p .0 ∙ sym (q .0), p .1 ∙ sym (q .1))
 
 pub read-stderr-with-error-unique : (κs : Lfts 3) (a : Dens κs read-stderr-with-error-kinds.ps) (r r′ : ℕ) (x x′ : AtExit (endedOf 3 read-stderr-with-error-kinds.ps read-stderr-with-error-kinds.r) κs)
-    → read-stderr-with-error.Post κs a r x → read-stderr-with-error.Post κs a r′ x′ → (r ≡ r′) × (now (x .1 .1 .1 .1 .1 .0) ≡ now (x′ .1 .1 .1 .1 .1 .0)) × (now (x .1 .1 .1 .1 .0) ≡ now (x′ .1 .1 .1 .1 .0))
+    → read-stderr-with-error.Post κs a r x → read-stderr-with-error.Post κs a r′ x′
+    → (r ≡ r′) × (now (x .1 .1 .1 .1 .1 .0) ≡ now (x′ .1 .1 .1 .1 .1 .0)) × (now (x .1 .1 .1 .1 .0) ≡ now (x′ .1 .1 .1 .1 .0))
 read-stderr-with-error-unique κs a r r′ x x′ p q = (p .0 ∙ sym (q .0), p .1 .0 ∙ sym (q .1 .0), p .1 .1 ∙ sym (q .1 .1))
 
 pub parse-handshake-unique : (κs : Lfts 4) (a : Dens κs parse-handshake-kinds.ps) (r r′ : ℕ) (x x′ : AtExit (endedOf 4 parse-handshake-kinds.ps parse-handshake-kinds.r) κs)

@@ -18,12 +18,14 @@ read-error-block-spec =
     (λ c. search needs)
     (λ c.
     let (at-error-block, at-layout, at-slots, at-judge-record) : tie.After-error-block × tie.After-layout × tie.After-slots × tie.After-judge-record = search in
-    block-refused _ _ (at-error-block .error-block .ensures) _ _ _ _ (at-layout .layout .ensures) _ _ _ (at-slots .slots .ensures) _ (at-judge-record .judge-record .ensures) _ (c .enum-told2 .given .1))
+    block-refused _ _ (at-error-block .error-block .ensures) _ _ _ _ (at-layout .layout .ensures)
+    _ _ _ (at-slots .slots .ensures) _ (at-judge-record .judge-record .ensures) _ (c .enum-told2 .given .1))
     (λ c κs. search needs)
     (λ c. search needs)
     (λ c. search needs)
     (λ c.
     let (at-error-block, at-layout, at-slots, at-judge-record, at-enum-told, at-fill-entries) :
     tie.After-error-block × tie.After-layout × tie.After-slots × tie.After-judge-record × tie.After-enum-told × tie.After-fill-entries = search in
-    block-filled _ _ (at-error-block .error-block .ensures) _ _ _ _ (at-layout .layout .ensures) _ _ _ (at-slots .slots .ensures) _ (at-judge-record .judge-record .ensures) (at-enum-told .enum-told .given .1) _ _ _ _
+    block-filled _ _ (at-error-block .error-block .ensures) _ _ _ _ (at-layout .layout .ensures)
+    _ _ _ (at-slots .slots .ensures) _ (at-judge-record .judge-record .ensures) (at-enum-told .enum-told .given .1) _ _ _ _
     (at-fill-entries .fill-entries .ensures .0) (at-fill-entries .fill-entries .ensures .1)))

@@ -15,4 +15,6 @@ read-stderr-with-error-spec =
     (λ c. search needs)
     (λ c κs. search needs)
     (λ c. search needs)
-    (λ c. let (at-start, at-error-kind, at-read) : tie.Start × tie.After-error-kind × tie.After-read = search in error-words _ _ _ (now (at-start .args .entries)) _ [] _ (at-read .read .ensures) _ (at-error-kind .error-kind .ensures) refl))
+    (λ c.
+    let (at-start, at-error-kind, at-read) : tie.Start × tie.After-error-kind × tie.After-read = search in
+    error-words _ _ _ (now (at-start .args .entries)) _ [] _ (at-read .read .ensures) _ (at-error-kind .error-kind .ensures) refl))
