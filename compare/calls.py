@@ -101,7 +101,7 @@ def other_count(w, dice):
     if w.counts:
         at = dice.choice(w.counts)
         now = w.numbers[at]
-        w.numbers[at] = dice.choice([0, now + 1, max(now - 1, 0), now + 2, 2**62, 2**63 - 1, 2**63, 2**63 + 1, TOP - 1, TOP])
+        w.numbers[at] = dice.choice([0, min(now + 1, TOP), max(now - 1, 0), min(now + 2, TOP), 2**62, 2**63 - 1, 2**63, 2**63 + 1, TOP - 1, TOP])
 
 
 def other_number(w, dice):

@@ -1,19 +1,23 @@
 //! Calls one by one, as a recorder makes them: at the C boundary, by the crate's layer `raw`, and by nix-wire.
 mod boundary;
+mod handshakes;
 mod layer;
 pub mod recorded;
 mod same;
-pub mod short;
+mod short;
+mod text;
 mod theirs;
-pub mod written;
+mod written;
 
-use crate::measure::{self, Times};
+use crate::measure::{self, Effort};
 use crate::memory::{self, Allocated};
+use crate::rows::{Figures, Row};
 use crate::Side;
 use boundary::Boundary;
 use layer::Layer;
 use lintelow::raw::ENTRY;
 use lintelow::Version;
+use recorded::Recording;
 use std::hint::black_box;
 
 #[derive(Clone, Copy, PartialEq, Eq)]
@@ -24,6 +28,8 @@ pub enum What {
     StderrLoop,
     ReadReply,
     SkipReply,
+    Handshake,
+    DaemonHandshake,
 }
 
 /// What is asked of which bytes, the call's own part of a stream.
@@ -31,12 +37,14 @@ pub enum What {
 pub struct Call<'s> {
     pub op: u64,
     pub version: Version,
+    /// Of a handshake what the daemon says.
     pub bytes: &'s [u8],
+    /// What the client says, of both sides of a handshake.
+    pub client: &'s [u8],
 }
 
-/// Calls of one kind, under the name of their row.
+/// Calls of one kind.
 pub struct Calls<'s> {
-    pub name: String,
     pub what: What,
     pub calls: Vec<Call<'s>>,
     /// How many more there were, which the sides do not read.
@@ -51,7 +59,7 @@ struct Room {
 
 impl Room {
     fn enough(calls: &[Call]) -> Room {
-        let longest = calls.iter().map(|call| call.bytes.len()).max().unwrap_or_default();
+        let longest = calls.iter().map(|call| call.bytes.len() + call.client.len()).max().unwrap_or_default();
         // A kept string has a length of eight bytes in the stream, and a payload's bytes stand there too.
         Room { entries: vec![0; longest / 8 * ENTRY], payload: vec![0; longest] }
     }
@@ -59,7 +67,7 @@ impl Room {
 
 trait Caller {
     fn prepare(&mut self) {}
-    /// Makes the calls in their order, and notes where each ended.
+    /// Makes the calls in their order, and notes where each ended: of both sides of a handshake the sum.
     fn make(&mut self, ends: &mut [usize]);
 }
 
@@ -100,35 +108,34 @@ fn allocated(side: &mut dyn Side) -> Allocated {
     memory::allocated(|| side.pass())
 }
 
-/// Measures the three sides on the same calls, and writes a row of a table.
-pub fn row(table: &str, calls: &Calls, samples: usize) {
+/// What comes of measuring the three sides on the same calls.
+fn figures(calls: &Calls, effort: Effort) -> Figures {
     let mut boundary = Pass::new(calls, Box::new(Boundary::new(calls)));
     let mut layer = Pass::new(calls, Box::new(Layer::new(calls)));
     let mut theirs = Pass::new(calls, theirs::caller(calls));
     let allocations = allocated(&mut boundary).number + allocated(&mut layer).number;
     allocated(&mut theirs);
     assert!(boundary.ends == theirs.ends && layer.ends == theirs.ends, "all sides end each call at the same byte");
-    let times = measure::measure(&mut [&mut boundary, &mut layer, &mut theirs], samples);
-    write(table, calls, &times, allocations);
+    let times = measure::measure(&mut [&mut boundary, &mut layer, &mut theirs], effort);
+    let number = calls.calls.len() as f64;
+    let each = |side| times.median(side) / number;
+    let (at_boundary, by_layer) = (times.ratio(THEIRS, BOUNDARY), times.ratio(THEIRS, LAYER));
+    vec![
+        ("calls", number),
+        ("left_out", calls.left_out as f64),
+        ("boundary", each(BOUNDARY)),
+        ("raw", each(LAYER)),
+        ("theirs", each(THEIRS)),
+        ("boundary_ratio", at_boundary.median),
+        ("ratio", by_layer.median),
+        ("low", by_layer.low),
+        ("high", by_layer.high),
+        ("allocations", allocations as f64),
+    ]
 }
 
-fn write(table: &str, calls: &Calls, times: &Times, allocations: u64) {
-    let number = calls.calls.len();
-    let each = |side| times.median(side) / number as f64;
-    let (at_boundary, by_layer) = (times.ratio(THEIRS, BOUNDARY), times.ratio(THEIRS, LAYER));
-    let fields = [
-        table.to_string(),
-        calls.name.clone(),
-        number.to_string(),
-        calls.left_out.to_string(),
-        each(BOUNDARY).to_string(),
-        each(LAYER).to_string(),
-        each(THEIRS).to_string(),
-        at_boundary.median.to_string(),
-        by_layer.median.to_string(),
-        by_layer.low.to_string(),
-        by_layer.high.to_string(),
-        allocations.to_string(),
-    ];
-    println!("{}", fields.join("\t"));
+/// All tables of calls.
+pub fn rows(recordings: &[Recording]) -> Vec<Row<'_>> {
+    let tables = [recorded::rows(recordings), short::rows(), handshakes::rows(recordings), text::rows(), written::rows(recordings)];
+    tables.into_iter().flatten().collect()
 }

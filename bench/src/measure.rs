@@ -3,10 +3,16 @@ use crate::clock::now;
 use crate::Side;
 use std::time::Duration;
 
-/// What a sample should take at least, timed parts alone.
-const ENOUGH: Duration = Duration::from_millis(4);
 /// How often the clock is read for nothing, to know what that takes.
 const TRIES: usize = 1_001;
+
+/// How much is measured.
+#[derive(Clone, Copy)]
+pub struct Effort {
+    pub samples: usize,
+    /// What a sample should take at least, timed parts alone.
+    pub enough: Duration,
+}
 
 /// Times of a pass in nanoseconds: of each side as many as there are samples.
 pub struct Times(Vec<Vec<f64>>);
@@ -67,21 +73,21 @@ impl Watch {
         (0..passes).map(once).sum()
     }
 
-    /// How many passes a sample has to have.
-    fn passes(&self, side: &mut dyn Side) -> u32 {
+    /// How many passes a sample has to have, which should take so long.
+    fn passes(&self, side: &mut dyn Side, enough: Duration) -> u32 {
         let mut passes = 1;
-        while self.sample(side, passes) < ENOUGH {
+        while self.sample(side, passes) < enough {
             passes *= 2;
         }
         passes
     }
 }
 
-pub fn measure(sides: &mut [&mut dyn Side], samples: usize) -> Times {
+pub fn measure(sides: &mut [&mut dyn Side], effort: Effort) -> Times {
     let watch = Watch::new();
-    let passes: Vec<u32> = sides.iter_mut().map(|side| watch.passes(*side)).collect();
+    let passes: Vec<u32> = sides.iter_mut().map(|side| watch.passes(*side, effort.enough)).collect();
     let mut times = vec![Vec::new(); sides.len()];
-    for index in 0..samples {
+    for index in 0..effort.samples {
         for turn in 0..sides.len() {
             // Each side comes first as often as the others.
             let side = (index + turn) % sides.len();

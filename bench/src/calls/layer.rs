@@ -15,7 +15,7 @@ impl<'s> Layer<'s> {
     }
 
     fn call(&mut self, call: &Call) -> usize {
-        let Call { op, version, bytes } = *call;
+        let Call { op, version, bytes, client } = *call;
         let Room { entries, payload } = &mut self.room;
         match self.what {
             What::ReadArguments => taken(raw::read_op_args(Mode::Ported, op, version, bytes, entries, payload)),
@@ -24,6 +24,8 @@ impl<'s> Layer<'s> {
             What::StderrLoop => taken(raw::read_stderr_loop(bytes)),
             What::ReadReply => taken(raw::read_daemon_result(op, version, bytes, entries, payload)),
             What::SkipReply => taken(raw::skip_daemon_result(op, version, bytes)),
+            What::Handshake => taken_of_both(raw::parse_handshake(client, bytes, entries)),
+            What::DaemonHandshake => taken_of_both(raw::parse_daemon_handshake(version, bytes, entries)),
         }
     }
 }
@@ -33,6 +35,11 @@ fn taken(answer: Result<Answer, Refusal>) -> usize {
     let answer = answer.expect("a call that is read");
     black_box((answer.kind, answer.entries, answer.payload));
     answer.end
+}
+
+/// Of a handshake, which has an end in each stream.
+fn taken_of_both(answer: Result<Answer, Refusal>) -> usize {
+    taken(answer) + answer.map_or(0, |answer| answer.end2)
 }
 
 impl Caller for Layer<'_> {

@@ -1,6 +1,7 @@
 //! The calls of recorded sessions. Each recording's index, which another decoder made, says where they stand.
-use super::{same, Call, Calls, What};
-use lintelow::Version;
+use super::{figures, same, Call, Calls, What};
+use crate::rows::Row;
+use lintelow::{HandshakeInfo, Version};
 use std::fs;
 use std::io;
 use std::ops::Range;
@@ -11,6 +12,9 @@ pub struct Recording {
     daemon: Vec<u8>,
     index: String,
     version: Version,
+    /// Where the handshake ends, in the client's stream and in the daemon's.
+    ends: (usize, usize),
+    client_version: Version,
 }
 
 /// A line of an index.
@@ -36,15 +40,24 @@ impl Recording {
         let (client, daemon) = (fs::read(folder.join("client.bin"))?, fs::read(folder.join("daemon.bin"))?);
         let index = fs::read_to_string(folder.join("index.tsv"))?;
         let handshake = lintelow::parse_handshake(&client, &daemon).ok();
-        Ok(handshake.map(|(info, ..)| Recording { client, daemon, index, version: info.negotiated_version }))
+        let recording = |(info, client_end, daemon_end): (HandshakeInfo, usize, usize)| {
+            let (version, client_version) = (info.negotiated_version, info.client_version);
+            Recording { client, daemon, index, version, ends: (client_end, daemon_end), client_version }
+        };
+        Ok(handshake.map(recording))
     }
 
     fn calls(&self, what: What) -> impl Iterator<Item = Call<'_>> {
         let lines = self.index.lines().filter(|line| !line.starts_with('#')).map(Line::of);
-        lines.filter_map(move |line| Some(Call { op: line.op, version: self.version, bytes: self.part(what, &line)? }))
+        lines.filter_map(move |line| Some(Call { op: line.op, version: self.version, bytes: self.part(what, &line)?, client: &[] }))
     }
 
-    /// The bytes of a call that are asked for; a call that failed has no reply.
+    /// What client and daemon say first, and the client's version.
+    pub fn handshake(&self) -> (Version, &[u8], &[u8]) {
+        (self.client_version, &self.client[..self.ends.0], &self.daemon[..self.ends.1])
+    }
+
+    /// The bytes of a call that are asked for; a call that failed has no reply, and a handshake is no part of one.
     fn part(&self, what: What, line: &Line) -> Option<&[u8]> {
         let failed = line.kind == "error";
         match what {
@@ -52,6 +65,7 @@ impl Recording {
             What::StderrWithError if failed => Some(&self.daemon[line.stderr.start..line.outcome.end]),
             What::StderrWithError | What::StderrLoop => Some(&self.daemon[line.stderr.clone()]),
             What::ReadReply | What::SkipReply => (!failed).then(|| &self.daemon[line.outcome.clone()]),
+            What::Handshake | What::DaemonHandshake => None,
         }
     }
 }
@@ -75,17 +89,13 @@ const ROWS: [(&str, What); 6] = [
     ("replies skipped", What::SkipReply),
 ];
 
-pub fn rows(recordings: &[Recording]) -> impl Iterator<Item = Calls<'_>> {
-    ROWS.into_iter().map(|(name, what)| row(recordings, name, what))
+pub fn rows(recordings: &[Recording]) -> Vec<Row<'_>> {
+    ROWS.into_iter().map(|(name, what)| Row::new("sessions", name, move |effort| figures(&calls(recordings, what), effort))).collect()
 }
 
-/// The arguments of all calls.
-pub fn arguments(recordings: &[Recording]) -> Calls<'_> {
-    row(recordings, "of recorded sessions, as they came", What::ReadArguments)
-}
-
-fn row<'s>(recordings: &'s [Recording], name: &str, what: What) -> Calls<'s> {
+/// All calls, as they came.
+pub fn calls(recordings: &[Recording], what: What) -> Calls<'_> {
     let asked = recordings.iter().flat_map(|recording| recording.calls(what));
     let (calls, others): (Vec<Call>, Vec<Call>) = asked.partition(|call| same::is_read(what, call));
-    Calls { name: name.to_string(), what, calls, left_out: others.len() }
+    Calls { what, calls, left_out: others.len() }
 }

@@ -15,11 +15,17 @@ fn number(what: What) -> u64 {
         What::SkipReply => 4,
         What::StderrLoop => 5,
         What::StderrWithError => 6,
+        What::Handshake => 7,
+        What::DaemonHandshake => 8,
     }
 }
 
+fn is_handshake(what: What) -> bool {
+    matches!(what, What::Handshake | What::DaemonHandshake)
+}
+
 fn ours<'r>(what: What, call: &Call, room: &'r mut Room) -> Result<Answer<'r>, Refusal> {
-    let Call { op, version, bytes } = *call;
+    let Call { op, version, bytes, client } = *call;
     let Room { entries, payload } = room;
     match what {
         What::ReadArguments => raw::read_op_args(Mode::Ported, op, version, bytes, entries, payload),
@@ -28,12 +34,15 @@ fn ours<'r>(what: What, call: &Call, room: &'r mut Room) -> Result<Answer<'r>, R
         What::SkipReply => raw::skip_daemon_result(op, version, bytes),
         What::StderrLoop => raw::read_stderr_loop(bytes),
         What::StderrWithError => raw::read_stderr_with_error(Mode::Ported, version, bytes, entries),
+        What::Handshake => raw::parse_handshake(client, bytes, entries),
+        What::DaemonHandshake => raw::parse_daemon_handshake(version, bytes, entries),
     }
 }
 
 fn theirs(what: What, call: &Call) -> Option<Line> {
     let (major, minor) = (call.version.major.into(), call.version.minor.into());
-    let request = Request { call: number(what), operation: call.op, major, minor, a: call.bytes.to_vec(), ..Request::default() };
+    let (a, b) = if is_handshake(what) { (call.client, call.bytes) } else { (call.bytes, call.client) };
+    let request = Request { call: number(what), operation: call.op, major, minor, a: a.to_vec(), b: b.to_vec(), ..Request::default() };
     match answer::answer(&request) {
         Theirs::Ok(line) => Some(line),
         _ => None,
@@ -46,11 +55,14 @@ fn text(call: &Call) -> Option<String> {
 }
 
 fn agree(what: What, call: &Call, ours: &Answer, theirs: &Line) -> bool {
-    let all = (ours.kind, ours.end) == (theirs.kind, theirs.end);
+    let all = (ours.kind, ours.end, ours.end2) == (theirs.kind, theirs.end, theirs.end2);
     if what == What::SkipArguments {
         return all && text(call).map(String::into_bytes).as_slice() == theirs.strings;
     }
-    let strings = ours.entries.iter().map(|entry| entry.bytes(call.bytes));
+    // The client's features stand in its own stream.
+    let of_client = if what == What::Handshake { ours.counts[0] as usize } else { 0 };
+    let stream = |index| if index < of_client { call.client } else { call.bytes };
+    let strings = ours.entries.iter().enumerate().map(|(index, entry)| entry.bytes(stream(index)));
     all && (ours.numbers, ours.counts) == (theirs.numbers, theirs.counts) && ours.payload == theirs.payload && strings.eq(&theirs.strings)
 }
 

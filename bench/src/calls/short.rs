@@ -1,16 +1,17 @@
 //! Calls with few bytes or none, many alike in a row.
-use super::{same, Call, Calls, What};
+use super::{figures, same, Call, Calls, What};
+use crate::rows::Row;
 use lintelow::wire::{write_string, write_string_set, write_u64};
 use lintelow::Version;
 
 const VERSION: Version = Version::new(1, 34);
 /// How many are made in a pass.
-const ALIKE: usize = 256;
+pub const ALIKE: usize = 256;
 
 const IS_VALID_PATH: u64 = 1;
 const ADD_TO_STORE: u64 = 7;
 const SYNC_WITH_GC: u64 = 13;
-const QUERY_DERIVER: u64 = 18;
+pub const QUERY_DERIVER: u64 = 18;
 const SET_OPTIONS: u64 = 19;
 const QUERY_PATH_INFO: u64 = 26;
 const QUERY_VALID_PATHS: u64 = 31;
@@ -20,12 +21,25 @@ const PATH: &str = "/nix/store/2baasz4qrckrzh2cizkgc23rr9j3kpgk-trivial-1.0";
 const ARGUMENTS: [What; 2] = [What::ReadArguments, What::SkipArguments];
 const REPLY: [What; 2] = [What::ReadReply, What::SkipReply];
 
-/// What one side says, so often in a row.
+/// What one side says, in parts of the same length, each of which is a call's.
 pub struct Stream {
-    name: &'static str,
-    op: u64,
-    calls: [What; 2],
-    bytes: Vec<u8>,
+    pub op: u64,
+    pub bytes: Vec<u8>,
+    pub calls: usize,
+}
+
+impl Stream {
+    pub fn alike(op: u64, part: &[u8]) -> Stream {
+        Stream { op, bytes: part.repeat(ALIKE), calls: ALIKE }
+    }
+
+    pub fn asked(&self, what: What) -> Calls<'_> {
+        let each = self.bytes.len() / self.calls;
+        let call = |index| Call { op: self.op, version: VERSION, bytes: &self.bytes[index * each..][..each], client: &[] };
+        let calls: Vec<Call> = (0..self.calls).map(call).collect();
+        assert!(calls.iter().all(|call| same::is_read(what, call)), "calls that both sides read");
+        Calls { what, calls, left_out: 0 }
+    }
 }
 
 fn string(text: &str) -> Vec<u8> {
@@ -77,23 +91,26 @@ fn added(length: usize) -> Vec<u8> {
     bytes
 }
 
-fn stream((name, op, calls, part): (&'static str, u64, [What; 2], Vec<u8>)) -> Stream {
-    Stream { name, op, calls, bytes: part.repeat(ALIKE) }
-}
-
 /// Calls to be written.
-pub fn arguments() -> Vec<Stream> {
-    let parts = [
-        ("nothing (SyncWithGC)", SYNC_WITH_GC, ARGUMENTS, vec![]),
-        ("one store path (QueryPathInfo)", QUERY_PATH_INFO, ARGUMENTS, string(PATH)),
-        ("eight store paths and a flag (QueryValidPaths)", QUERY_VALID_PATHS, ARGUMENTS, paths()),
-        ("twelve numbers and two pairs (SetOptions)", SET_OPTIONS, ARGUMENTS, options()),
-        ("three strings and 1,000 bytes (AddToStore)", ADD_TO_STORE, ARGUMENTS, added(1000)),
-    ];
-    parts.into_iter().map(stream).collect()
+pub fn arguments() -> [(&'static str, u64, Vec<u8>); 5] {
+    [
+        ("nothing (SyncWithGC)", SYNC_WITH_GC, vec![]),
+        ("one store path (QueryPathInfo)", QUERY_PATH_INFO, string(PATH)),
+        ("eight store paths and a flag (QueryValidPaths)", QUERY_VALID_PATHS, paths()),
+        ("twelve numbers and two pairs (SetOptions)", SET_OPTIONS, options()),
+        ("three strings and 1,000 bytes (AddToStore)", ADD_TO_STORE, added(1000)),
+    ]
 }
 
-pub fn streams() -> Vec<Stream> {
+fn both((name, op, calls, part): (&str, u64, [What; 2], Vec<u8>)) -> [Row<'static>; 2] {
+    calls.map(|what| {
+        let done = if matches!(what, What::ReadArguments | What::ReadReply) { "read" } else { "skipped" };
+        let part = part.clone();
+        Row::new("short", format!("{name}, {done}"), move |effort| figures(&Stream::alike(op, &part).asked(what), effort))
+    })
+}
+
+pub fn rows() -> Vec<Row<'static>> {
     let parts = [
         ("arguments of nothing", SYNC_WITH_GC, ARGUMENTS, vec![]),
         ("a reply of nothing", SET_OPTIONS, REPLY, vec![]),
@@ -102,27 +119,5 @@ pub fn streams() -> Vec<Stream> {
         ("arguments of one store path", QUERY_PATH_INFO, ARGUMENTS, string(PATH)),
         ("a reply with a path info", QUERY_PATH_INFO, REPLY, path_info()),
     ];
-    parts.into_iter().map(stream).collect()
-}
-
-impl Stream {
-    pub fn rows(&self) -> impl Iterator<Item = Calls<'_>> {
-        self.calls.into_iter().map(|what| {
-            let done = if matches!(what, What::ReadArguments | What::ReadReply) { "read" } else { "skipped" };
-            self.row(format!("{}, {done}", self.name), what)
-        })
-    }
-
-    /// What is read of it, to be written.
-    pub fn read(&self) -> Calls<'_> {
-        self.row(self.name.to_string(), self.calls[0])
-    }
-
-    fn row(&self, name: String, what: What) -> Calls<'_> {
-        let each = self.bytes.len() / ALIKE;
-        let call = |index| Call { op: self.op, version: VERSION, bytes: &self.bytes[index * each..][..each] };
-        let calls: Vec<Call> = (0..ALIKE).map(call).collect();
-        assert!(calls.iter().all(|call| same::is_read(what, call)), "calls that both sides read");
-        Calls { name, what, calls, left_out: 0 }
-    }
+    parts.into_iter().flat_map(both).collect()
 }

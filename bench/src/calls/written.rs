@@ -1,7 +1,10 @@
 //! Calls written from what was read of them, beside the time of reading them: both at the C boundary, by the functions of include/lintelow.h.
-use super::boundary::{Boundary, BLOCK, END, MODE};
+use super::boundary::{number, Boundary, BLOCK, END, MODE};
+use super::recorded::{self, Recording};
+use super::short::{self, Stream};
 use super::{allocated, Call, Caller, Calls, Pass, Room, What};
-use crate::measure;
+use crate::measure::{self, Effort};
+use crate::rows::{Figures, Row};
 use lintelow::raw::{self, RECORD};
 use lintelow::{Mode, Version};
 
@@ -77,7 +80,7 @@ impl<'s> Writer<'s> {
 
     /// How many bytes a call has.
     fn write(&mut self, index: usize) -> usize {
-        let Found { call: Call { op, version: Version { major, minor }, bytes }, record, entries, payload, .. } = &self.found[index];
+        let Found { call: Call { op, version: Version { major, minor }, bytes, .. }, record, entries, payload, .. } = &self.found[index];
         // SAFETY: the declaration is that of the header; each pointer goes with the length of its own slice, and what is lent overlaps nothing.
         let refusal = unsafe {
             lintelow_write_op_args(
@@ -100,7 +103,7 @@ impl<'s> Writer<'s> {
             )
         };
         assert!(refusal == 0, "a call that is written");
-        u64::from_le_bytes(*self.block[END..].first_chunk().expect("eight bytes")) as usize
+        number(&self.block, END)
     }
 }
 
@@ -112,27 +115,32 @@ impl Caller for Writer<'_> {
     }
 }
 
-/// Measures reading and writing of the same calls, and writes a row of a table.
-pub fn row(table: &str, calls: &Calls, samples: usize) {
-    assert!(calls.what == What::ReadArguments, "what is written are arguments");
+/// What comes of measuring reading and writing on the same calls.
+fn figures(calls: &Calls, effort: Effort) -> Figures {
     let mut read = Pass::new(calls, Box::new(Boundary::new(calls)));
     let mut written = Pass::new(calls, Box::new(Writer::new(calls)));
     let allocations = allocated(&mut read).number + allocated(&mut written).number;
-    let number = calls.calls.len();
+    let number = calls.calls.len() as f64;
     let bytes: usize = written.ends.iter().sum();
-    let times = measure::measure(&mut [&mut read, &mut written], samples);
-    let (each, ratio) = (|side| times.median(side) / number as f64, times.ratio(0, 1));
-    let numbers = [
-        number as f64,
-        calls.left_out as f64,
-        bytes as f64 / number as f64,
-        each(0),
-        each(1),
-        ratio.median,
-        ratio.low,
-        ratio.high,
-        allocations as f64,
-    ];
-    let fields: Vec<String> = [table.to_string(), calls.name.clone()].into_iter().chain(numbers.map(|n| n.to_string())).collect();
-    println!("{}", fields.join("\t"));
+    let times = measure::measure(&mut [&mut read, &mut written], effort);
+    let (each, ratio) = (|side| times.median(side) / number, times.ratio(0, 1));
+    vec![
+        ("calls", number),
+        ("left_out", calls.left_out as f64),
+        ("bytes", bytes as f64 / number),
+        ("read", each(0)),
+        ("written", each(1)),
+        ("ratio", ratio.median),
+        ("low", ratio.low),
+        ("high", ratio.high),
+        ("allocations", allocations as f64),
+    ]
+}
+
+pub fn rows(recordings: &[Recording]) -> Vec<Row<'_>> {
+    let of_recordings = move |effort| figures(&recorded::calls(recordings, What::ReadArguments), effort);
+    let alike = short::arguments()
+        .into_iter()
+        .map(|(name, op, part)| Row::new("written", name, move |effort| figures(&Stream::alike(op, &part).asked(What::ReadArguments), effort)));
+    [Row::new("written", "of recorded sessions, as they came", of_recordings)].into_iter().chain(alike).collect()
 }

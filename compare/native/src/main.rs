@@ -1,8 +1,8 @@
 //! nix-wire and the static library in one process.
 //! `native requests SEED COUNT THREADS` holds their answers against each other, over the requests of `oracle generate SEED COUNT`, and of `oracle published`
 //! those that take a mode.
-//! `native text STRIDE THREADS` holds the library's text against Rust's `from_utf8`: all strings of up to three bytes, and of those of four that begin with
-//! E0 or above every STRIDE-th.
+//! `native text STRIDE THREADS` holds the library's text against Rust's `from_utf8`: all strings of up to three bytes, of those of four that begin with
+//! E0 or above every STRIDE-th, and longer ones.
 //! `native limit` holds their answers to strings and chunks of the limit and above, and to long strings in a row, against each other.
 //! `native calls SEED COUNT` has calls written by the library, in both modes, reads them by nix-wire, and holds them against what its writers write.
 //! `native cut SEED THREADS` cuts streams that the library passes, in both modes, at every byte, and adds bytes behind them.

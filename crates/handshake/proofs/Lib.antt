@@ -1,8 +1,9 @@
 -- `Unique`, `Demands` and `Cut` are what docs/PROOFS.md cites; the others serve the functions' proofs.
-pub mod Ways
+pub mod Order
 pub mod Quiet
-pub mod Left
-pub mod Whole
+pub mod Turns
+pub mod Talk
+pub mod Sides
 pub mod Room
 pub mod Filled
 pub mod Unique

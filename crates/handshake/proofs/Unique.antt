@@ -5,6 +5,8 @@ use borrow.Fn.Kinds.{Dens, endedOf}
 use denote.Triple.Clauses.{AtExit}
 use denote.Ref.{now}
 use Rattle.walk_judge.specs.declared.Answer.{Answer}
+use Rattle.walk_judge.specs.declared.Said.{Said}
+use Rattle.walk_judge.proofs.Unique.{said-told}
 use Rattle.handshake.proofs.parse_handshake.Reads as parse-handshake
 use Rattle.handshake.proofs.parse_handshake.Kinds as parse-handshake-kinds
 use Rattle.handshake.proofs.parse_daemon_handshake.Reads as parse-daemon-handshake
@@ -24,12 +26,21 @@ pub parse-daemon-handshake-unique : (κs : Lfts 2) (a : Dens κs parse-daemon-ha
     → parse-daemon-handshake.Post κs a r x → parse-daemon-handshake.Post κs a r′ x′ → (r ≡ r′) × (now (x .1 .1 .1 .0) ≡ now (x′ .1 .1 .1 .0))
 parse-daemon-handshake-unique κs a r r′ x x′ p q = (p .0 ∙ sym (q .0), p .1 ∙ sym (q .1))
 
-pub parse-handshake-bytes-unique : (κs : Lfts 3) (a : Dens κs parse-handshake-bytes-kinds.ps) (r r′ : Answer)
-    (x x′ : AtExit (endedOf 3 parse-handshake-bytes-kinds.ps parse-handshake-bytes-kinds.r) κs)
-    → parse-handshake-bytes.Post κs a r x → parse-handshake-bytes.Post κs a r′ x′ → (r ≡ r′) × (now (x .1 .1 .0) ≡ now (x′ .1 .1 .0))
-parse-handshake-bytes-unique κs a r r′ x x′ p q = (p .0 ∙ sym (q .0), p .1 ∙ sym (q .1))
+pub parse-handshake-bytes-unique : (κs : Lfts 5) (a : Dens κs parse-handshake-bytes-kinds.ps) (r r′ : Said)
+    (x x′ : AtExit (endedOf 5 parse-handshake-bytes-kinds.ps parse-handshake-bytes-kinds.r) κs)
+    → parse-handshake-bytes.Post κs a r x → parse-handshake-bytes.Post κs a r′ x′
+    → ((r ≡ r′) × (now (x .1 .1 .1 .0) ≡ now (x′ .1 .1 .1 .0)) × (now (x .1 .1 .1 .1 .0) ≡ now (x′ .1 .1 .1 .1 .0))) × (now (x .1 .1 .0) ≡ now (x′ .1 .1 .0))
+parse-handshake-bytes-unique κs a r r′ x x′ p q = (
+  said-told r r′ (now (x .1 .1 .1 .0)) (now (x .1 .1 .1 .1 .0)) (now (x′ .1 .1 .1 .0)) (now (x′ .1 .1 .1 .1 .0)) (p .0 ∙ sym (q .0)),
+  p .1 ∙ sym (q .1),
+)
 
-pub parse-daemon-handshake-bytes-unique : (κs : Lfts 2) (a : Dens κs parse-daemon-handshake-bytes-kinds.ps) (r r′ : Answer)
-    (x x′ : AtExit (endedOf 2 parse-daemon-handshake-bytes-kinds.ps parse-daemon-handshake-bytes-kinds.r) κs)
-    → parse-daemon-handshake-bytes.Post κs a r x → parse-daemon-handshake-bytes.Post κs a r′ x′ → (r ≡ r′) × (now (x .1 .1 .1 .0) ≡ now (x′ .1 .1 .1 .0))
-parse-daemon-handshake-bytes-unique κs a r r′ x x′ p q = (p .0 ∙ sym (q .0), p .1 ∙ sym (q .1))
+pub parse-daemon-handshake-bytes-unique : (κs : Lfts 4) (a : Dens κs parse-daemon-handshake-bytes-kinds.ps) (r r′ : Said)
+    (x x′ : AtExit (endedOf 4 parse-daemon-handshake-bytes-kinds.ps parse-daemon-handshake-bytes-kinds.r) κs)
+    → parse-daemon-handshake-bytes.Post κs a r x → parse-daemon-handshake-bytes.Post κs a r′ x′
+    → ((r ≡ r′) × (now (x .1 .1 .1 .1 .0) ≡ now (x′ .1 .1 .1 .1 .0)) × (now (x .1 .1 .1 .1 .1 .0) ≡ now (x′ .1 .1 .1 .1 .1 .0)))
+    × (now (x .1 .1 .1 .0) ≡ now (x′ .1 .1 .1 .0))
+parse-daemon-handshake-bytes-unique κs a r r′ x x′ p q = (
+  said-told r r′ (now (x .1 .1 .1 .1 .0)) (now (x .1 .1 .1 .1 .1 .0)) (now (x′ .1 .1 .1 .1 .0)) (now (x′ .1 .1 .1 .1 .1 .0)) (p .0 ∙ sym (q .0)),
+  p .1 ∙ sym (q .1),
+)

@@ -1,2 +1,2 @@
-pub mod Sofar
+pub mod Turns
 pub mod Greeted

@@ -1,25 +1,30 @@
-// Both handshakes: turns on two streams, each a layout of the table from where the last turn on that stream ended. All turns are judged in their order, without
-// writes, and only then are the entries filled in, as numbers or as bytes: the other room is lent empty. A version is one number, 256 * major + minor.
+// Both handshakes: turns on two streams, each from where the last turn on that stream ended. All turns are judged in their order, without a write to lent memory but for
+// the numbers, and only then are the entries filled in, as numbers or as bytes: the other room is lent empty. A turn's fields are read one by one and not by the table:
+// a handshake is short, and to go through the table would take most of its time. A version is one number, 256 * major + minor.
 ghost use mathlib.Core.Path.{_≡_};
-ghost use mathlib.Core.List.{List};
-ghost use mathlib.Core.Bool.{true, false, not};
-ghost use Prim.Native.Nat.{ℕ, _-_, _/_, _%_, _<_, _≤_};
-ghost use lib.Dec.{eqb, leb};
-ghost use lib.ListN.{length};
-ghost use Rattle.layouts.specs.Primitive.{pick, version, notLast, ok, onward};
-ghost use Rattle.layouts.specs.Refusal.{refusal};
-ghost use Rattle.layouts.specs.Stderr.{Last};
-ghost use Rattle.layouts.specs.Handshake.{numberIn, versions, handshakeAnswer, parseHandshake, parseDaemonHandshake};
+ghost use mathlib.Core.List.{List, []};
+ghost use Prim.Native.Nat.{ℕ, _-_, _/_, _<_, _≤_};
+ghost use lib.Dec.{leb};
+ghost use lib.ListN.{length, set};
+ghost use lib.Seq.{sets};
+ghost use Rattle.layouts.specs.declared.Record.{Record};
+ghost use Rattle.layouts.specs.Primitive.{pick, version, fromWire, smaller, refused};
+ghost use Rattle.layouts.specs.Shape.{Tree, ask, dropped, asNumber, kept, num, str, maybe, gated};
+ghost use Rattle.layouts.specs.Pieces.{run};
+ghost use Rattle.layouts.specs.Judge.{judgeOf};
+ghost use Rattle.layouts.specs.Handshake.{hello, greeting, handshake, daemonGreeting, daemonHandshake, versions};
 ghost use Rattle.table.specs.Table.{versionIn};
-ghost use Rattle.walk_items.specs.Items.{layoutTree};
-ghost use Rattle.walk_judge.specs.Judged.{answerAs};
+ghost use Rattle.walk_take.specs.Taking.{Takes};
+ghost use Rattle.walk_judge.specs.Judged.{answerOf, answerAs};
 ghost use Rattle.writers_output.specs.Numbers.{bytesOf};
-ghost use Rattle.handshake.specs.Sofar.{start, bothOf, saidOn, said, turnOf, required};
-ghost use Rattle.handshake.specs.Greeted.{parsed, KeepsAll, handshakeFilled, bothRead, aloneRead};
+ghost use Rattle.handshake.specs.Turns.{helloTo, JudgesFeatures, Passed, trustTo, JudgesInfo, toldOf, start, metAt};
+ghost use Rattle.handshake.specs.Greeted.{keptBy, GreetsBoth, GreetsAlone, bothFilled, aloneFilled, bothRead, aloneRead};
 use layouts::Refusal;
+use numbers::Number;
 use walk_items::Layout;
 use walk_judge::Answer;
-use walk_judge::Outcome;
+use walk_judge::Said;
+use walk_take::Series;
 
 const WORKER_MAGIC_1: u64 = 0x6e697863;
 
@@ -27,129 +32,228 @@ const WORKER_MAGIC_2: u64 = 0x6478696f;
 
 const STDERR_LAST: u64 = 0x616c7473;
 
-// Where the numbers of a handshake stand in the record while it is read.
-const CLIENT_MAGIC: usize = 0;
+// From which version on a field is there.
+const RESERVES_SPACE: u64 = 0x10B;
 
-const CLIENT_VERSION: usize = 1;
+const HAS_AFFINITY: u64 = 0x10E;
 
-const DAEMON_MAGIC: usize = 2;
-
-const DAEMON_VERSION: usize = 3;
-
-const TRUST: usize = 4;
-
-const LAST: usize = 5;
-
-// From 1.33 the daemon says its version, and from 1.35 whether it trusts the client.
 const SAYS_VERSION: u64 = 0x121;
 
 const SAYS_TRUST: u64 = 0x123;
 
-// The refusals of a magic that is another number.
-const NO_CLIENT: Refusal = Refusal {
-    which: layouts::CLIENT_MAGIC_WRONG,
-    place: 0,
-    stream: 0,
-};
+const HAS_FEATURES: u64 = 0x126;
 
-const NO_DAEMON: Refusal = Refusal {
-    which: layouts::DAEMON_MAGIC_WRONG,
-    place: 0,
-    stream: 1,
-};
+// The streams, as a refusal names them.
+const CLIENT: u64 = 0;
 
-// What a handshake answers, and for the one who fills: the layouts of the turns that keep strings, and where these turns begin.
+const DAEMON: u64 = 1;
+
+// Where a hello ends.
+const HELLO_END: usize = 16;
+
+enum Hello {
+    Said { magic: u64, wire: u64 },
+    Refused(Refusal),
+}
+
+// Where features end, the entries then, and how many features there are.
+enum Features {
+    Past {
+        at: usize,
+        entries: usize,
+        count: u64,
+    },
+    Refused(Refusal),
+}
+
+// Where numbers end that are passed over.
+enum Place {
+    Past(usize),
+    Refused(Refusal),
+}
+
+// 0 where the daemon does not say whether it trusts the client.
+enum Trust {
+    Past { at: usize, trust: u64 },
+    Refused(Refusal),
+}
+
+// Where the daemon's last turn ends, the entries then, and its numbers.
+enum Info {
+    Past {
+        at: usize,
+        entries: usize,
+        trust: u64,
+        last: u64,
+    },
+    Refused(Refusal),
+}
+
+// What is said, and for the one who fills: the layouts of the turns that keep strings, and where the last of them begins.
 struct Greeted {
-    answer: Answer,
+    said: Said,
     offers: Layout,
-    offers_at: usize,
     features: Layout,
-    features_at: usize,
     info: Layout,
     info_at: usize,
 }
 
-// What both streams have said so far is an answer, too; after a refusal only its outcome counts. The streams take turns: `ends` is where the next turn begins,
-// and `ends2` where the one on the other stream begins.
-fn start() -> Answer
-    ensures { λ r. ⌜ said r ≡ ok start ⌝ }
+// Magic and version.
+fn judge_hello(s: &[u8]) -> Hello
+    ensures { λ r. ⌜ ((slots : ℕ) (x : Record) (i j : ℕ) → judgeOf (now (s .entry)) slots 0 x (run (hello i j) (now (s .entry)) 0) ≡ helloTo x i j r) ⌝ }
 {
-    Answer {
-        outcome: Outcome::Fine,
-        kind: 0,
-        ends: 0,
-        ends2: 0,
-        found: walk_judge::empty(),
+    let m = pieces::number_at(s, 0);
+    match m {
+        Number::Short => Hello::Refused(layouts::refuse(layouts::CUT_SHORT, 0)),
+        Number::Value(magic) => {
+            let w = pieces::number_at(s, 8);
+            match w {
+                Number::Short => Hello::Refused(layouts::refuse(layouts::CUT_SHORT, 8)),
+                Number::Value(wire) => Hello::Said { magic, wire },
+            }
+        }
     }
 }
 
-// A turn on the stream s, which is the client's or the daemon's. A refusal names the stream, and after it nothing is read.
-fn turn(sofar: Answer, s: &[u8], of_daemon: bool, layout: Layout, slots: usize) -> Answer
-    ensures { λ r. ⌜ saidOn (not «of_daemon») r ≡ onward (saidOn «of_daemon» sofar) (turnOf «of_daemon» (now (s .entry)) slots (layoutTree layout)) ⌝ }
-{
-    let o = sofar.outcome;
-    let Outcome::Fine = o else {
-        return sofar;
-    };
-    let mut turn = walk_judge::judge_record(s, sofar.ends, layout, slots, 0, sofar.found);
-    let judged = turn.outcome;
-    if let Outcome::Refused(r) = judged {
-        return walk_judge::refused_answer(Refusal {
-            which: r.which,
-            place: r.place,
-            stream: bit(of_daemon),
-        });
-    }
-    turn.ends2 = turn.ends;
-    turn.ends = sofar.ends2;
-    turn
-}
-
-// A turn of the client's, then one of the daemon's.
-fn round(
-    sofar: Answer,
-    client: &[u8],
-    daemon: &[u8],
-    asks: Layout,
-    tells: Layout,
+// The features of one side, with n entries before them.
+fn judge_features(
+    s: &[u8],
+    at: usize,
+    v: u64,
     slots: usize,
-) -> Answer
-    ensures { λ r. ⌜ said r ≡ onward (onward (said sofar) (turnOf false (now (client .entry)) slots (layoutTree asks))) (turnOf true (now (daemon .entry)) slots (layoutTree tells)) ⌝ }
+    n: usize,
+    window: &mut [u64; 16],
+) -> Features
+    ensures { λ r. ⌜ JudgesFeatures (now (s .entry)) slots at v n (now (window .entry)) (now (window .exit)) r ⌝ }
 {
-    let asked = turn(sofar, client, false, asks, slots);
-    turn(asked, daemon, true, tells, slots)
-}
-
-// The number at i of the record so far.
-fn number_in(sofar: Answer, i: usize) -> u64
-    requires { ⌜ i < 12 ⌝ }
-    ensures { λ r. ⌜ r ≡ numberIn (sofar .found) i ⌝ }
-{
-    let found = sofar.found;
-    found.numbers[i]
-}
-
-// The version that it says: its lowest two bytes.
-fn version_in(sofar: Answer, i: usize) -> u64
-    requires { ⌜ i < 12 ⌝ }
-    ensures { λ r. ⌜ r ≡ numberIn (sofar .found) i % 65536 ⌝ }
-{
-    number_in(sofar, i) % 65536
-}
-
-// Refused, unless the number at i is the wanted one or there was a refusal before.
-fn require_number(sofar: Answer, i: usize, wanted: u64, refusal: Refusal) -> Answer
-    requires { ⌜ i < 12 ⌝ }
-    ensures { λ r. ⌜ said r ≡ onward (said sofar) (required (eqb (numberIn (sofar .found) i) wanted) refusal) ⌝ }
-{
-    let o = sofar.outcome;
-    let Outcome::Fine = o else {
-        return sofar;
-    };
-    if number_in(sofar, i) == wanted {
-        return sofar;
+    if v < HAS_FEATURES {
+        return Features::Past {
+            at,
+            entries: n,
+            count: 0,
+        };
     }
-    walk_judge::refused_answer(refusal)
+    let m = pieces::number_at(s, at);
+    match m {
+        Number::Short => Features::Refused(layouts::refuse(layouts::CUT_SHORT, at)),
+        Number::Value(count) => {
+            let k = walk_take::judge_series(s, at + 8, table::KEPT, 0, 0, count, slots, n, window);
+            match k {
+                Series::Refused(r) => Features::Refused(r),
+                Series::Past { at: next, entries } => Features::Past {
+                    at: next,
+                    entries,
+                    count,
+                },
+            }
+        }
+    }
+}
+
+// A number that is dropped.
+fn pass_number(s: &[u8], at: usize) -> Place
+    ensures { λ r. ⌜ Passed (now (s .entry)) at (λ k. ask dropped (λ v. k tt)) r ⌝ }
+{
+    let m = pieces::number_at(s, at);
+    match m {
+        Number::Short => Place::Refused(layouts::refuse(layouts::CUT_SHORT, at)),
+        Number::Value(_) => Place::Past(at + 8),
+    }
+}
+
+// Whether an affinity is set, and if so a number that says it.
+fn pass_affinity(s: &[u8], at: usize, v: u64) -> Place
+    ensures { λ r. ⌜ Passed (now (s .entry)) at (gated (leb 270 v) maybe) r ⌝ }
+{
+    if v < HAS_AFFINITY {
+        return Place::Past(at);
+    }
+    let m = pieces::number_at(s, at);
+    match m {
+        Number::Short => Place::Refused(layouts::refuse(layouts::CUT_SHORT, at)),
+        Number::Value(x) => {
+            if x == 0 {
+                return Place::Past(at + 8);
+            }
+            pass_number(s, at + 8)
+        }
+    }
+}
+
+// The numbers of the client that mean nothing any more.
+fn pass_obsolete(s: &[u8], at: usize, v: u64) -> Place
+    ensures { λ r. ⌜ Passed (now (s .entry)) at (λ k. gated (leb 270 v) maybe (λ u. gated (leb 267 v) (num dropped) k)) r ⌝ }
+{
+    let a = pass_affinity(s, at, v);
+    match a {
+        Place::Refused(r) => Place::Refused(r),
+        Place::Past(next) => {
+            if v < RESERVES_SPACE {
+                return Place::Past(next);
+            }
+            pass_number(s, next)
+        }
+    }
+}
+
+// The daemon's version string.
+fn judge_version(
+    s: &[u8],
+    at: usize,
+    v: u64,
+    slots: usize,
+    n: usize,
+    window: &mut [u64; 16],
+) -> Series
+    ensures { λ r. ⌜ Takes (now (s .entry)) slots at (gated (leb 289 v) (str kept)) (now (window .entry)) n (now (window .exit)) r ⌝ }
+{
+    if v < SAYS_VERSION {
+        return Series::Past { at, entries: n };
+    }
+    walk_take::judge_text(s, at, table::KEPT, slots, n, window)
+}
+
+fn judge_trust(s: &[u8], at: usize, v: u64) -> Trust
+    ensures { λ r. ⌜ ((slots : ℕ) (k : Unit {0} → Tree) (x : Record) → set (x .numbers) 4 0 ≡ x .numbers
+        → judgeOf (now (s .entry)) slots 0 x (run (gated (leb 291 v) (num (asNumber 4)) k) (now (s .entry)) at) ≡ trustTo (now (s .entry)) slots x k r) ⌝ }
+{
+    if v < SAYS_TRUST {
+        return Trust::Past { at, trust: 0 };
+    }
+    let m = pieces::number_at(s, at);
+    match m {
+        Number::Short => Trust::Refused(layouts::refuse(layouts::CUT_SHORT, at)),
+        Number::Value(trust) => Trust::Past { at: at + 8, trust },
+    }
+}
+
+// What the daemon says last, after its version string, which was judged so. With `judge_version` in it this function would stay out of line in both callers.
+fn judge_info(t: Series, s: &[u8], v: u64) -> Info
+    ensures { λ r. ⌜ ((slots at n : ℕ) (w w' : List ℕ) → Takes (now (s .entry)) slots at (gated (leb 289 v) (str kept)) w n w' t → JudgesInfo (now (s .entry)) slots at v n w w' r) ⌝ }
+{
+    match t {
+        Series::Refused(r) => Info::Refused(r),
+        Series::Past { at: after, entries } => {
+            let h = judge_trust(s, after, v);
+            match h {
+                Trust::Refused(r) => Info::Refused(r),
+                Trust::Past { at: next, trust } => {
+                    let m = pieces::number_at(s, next);
+                    match m {
+                        Number::Short => {
+                            Info::Refused(layouts::refuse(layouts::CUT_SHORT, next))
+                        }
+                        Number::Value(last) => Info::Past {
+                            at: next + 8,
+                            entries,
+                            trust,
+                            last,
+                        },
+                    }
+                }
+            }
+        }
+    }
 }
 
 // The place of the number that ends there.
@@ -204,148 +308,268 @@ fn versions(c: u64, d: u64, trust: u64) -> [u64; 12]
     ]
 }
 
-// What is answered to a client of the version c, where all was fine.
-fn answer(sofar: Answer, c: u64) -> Answer
-    ensures { λ r. ⌜ r ≡ answerAs (handshakeAnswer (versionIn c) (bothOf sofar)) ⌝ }
+// A refusal, which names its stream.
+fn refuse_on(r: Refusal, stream: u64, numbers: &mut [u64; 12], counts: &mut [u64; 3]) -> Said
+    ensures { λ a. ⌜ answerOf a (now (numbers .exit)) (now (counts .exit)) ≡ answerAs (refused (r .which) (r .place) stream) ⌝ }
 {
-    let d = version_in(sofar, DAEMON_VERSION);
-    let numbers = versions(c, d, number_in(sofar, TRUST));
-    let mut found = sofar.found;
-    found.numbers = numbers;
-    Answer {
-        outcome: Outcome::Fine,
-        kind: 0,
-        ends: sofar.ends,
-        ends2: sofar.ends2,
-        found,
+    walk_judge::refuse(
+        Refusal {
+            which: r.which,
+            place: r.place,
+            stream,
+        },
+        numbers,
+        counts,
+    )
+}
+
+// The same for one who fills: there is nothing to fill in.
+fn stop(r: Refusal, stream: u64, numbers: &mut [u64; 12], counts: &mut [u64; 3]) -> Greeted
+    ensures { λ g. ⌜ answerOf (g .said) (now (numbers .exit)) (now (counts .exit)) ≡ answerAs (refused (r .which) (r .place) stream) ⌝ }
+{
+    Greeted {
+        said: refuse_on(r, stream, numbers, counts),
+        offers: 0,
+        features: 0,
+        info: 0,
+        info_at: 0,
     }
 }
 
-// At the end the daemon's last number has to be Last.
-fn finish(sofar: Answer, c: u64) -> Answer
-    ensures { λ r. ⌜ r ≡ answerAs (onward (onward (said sofar) (required (eqb (numberIn (sofar .found) 5) Last) (refusal notLast (sofar .ends2 - 8) 1))) (handshakeAnswer (versionIn c))) ⌝ }
+// What is answered after the daemon's last turn, where c and d are the versions, and the client's stream ends at a place. The last number has to be Last.
+fn tell(
+    i: Info,
+    c: u64,
+    d: u64,
+    offered: u64,
+    featured: u64,
+    ends: usize,
+    numbers: &mut [u64; 12],
+    counts: &mut [u64; 3],
+) -> Said
+    ensures { λ r. ⌜ answerOf r (now (numbers .exit)) (now (counts .exit)) ≡ answerAs (toldOf (versionIn c) (versionIn d) offered featured ends i) ⌝ }
 {
-    let not_last = Refusal {
-        which: layouts::NOT_LAST,
-        place: place_before(sofar.ends2),
-        stream: 1,
-    };
-    let done = require_number(sofar, LAST, STDERR_LAST, not_last);
-    let o = done.outcome;
-    if let Outcome::Refused(r) = o {
-        return walk_judge::refused_answer(r);
+    match i {
+        Info::Refused(r) => refuse_on(r, DAEMON, numbers, counts),
+        Info::Past {
+            at: ends2,
+            entries,
+            trust,
+            last,
+        } => {
+            if last == STDERR_LAST {
+                *numbers = versions(c, d, trust);
+                *counts = [offered, featured, 0];
+                return Said::Fine {
+                    kind: 0,
+                    ends,
+                    ends2,
+                    entries,
+                    payload: 0,
+                    present: false,
+                };
+            }
+            refuse_on(
+                layouts::refuse(layouts::NOT_LAST, place_before(ends2)),
+                DAEMON,
+                numbers,
+                counts,
+            )
+        }
     }
-    answer(done, c)
+}
+
+// What follows the magics of both sides, whose versions are c and d.
+fn greet(
+    client: &[u8],
+    daemon: &[u8],
+    c: u64,
+    d: u64,
+    slots: usize,
+    window: &mut [u64; 16],
+    numbers: &mut [u64; 12],
+    counts: &mut [u64; 3],
+) -> Greeted
+    requires { ⌜ d < 65536 ⌝ }
+    ensures { λ r. ⌜ ((m1 w1 m2 w2 : ℕ) → versionIn c ≡ fromWire w1 → versionIn d ≡ fromWire w2
+        → GreetsBoth (greeting (smaller (fromWire w1) (fromWire w2))) (metAt m1 w1 m2 w2 0 0 0 16 16) (now (client .entry)) (now (daemon .entry)) slots (now (window .entry))
+        r (now (numbers .exit)) (now (counts .exit)) (now (window .exit))) ⌝ }
+{
+    let v = smaller(c, d);
+    let f = judge_features(client, HELLO_END, v, slots, 0, window);
+    match f {
+        Features::Refused(r) => stop(r, CLIENT, numbers, counts),
+        Features::Past {
+            at: offered_to,
+            entries: n,
+            count: offered,
+        } => {
+            let g = judge_features(daemon, HELLO_END, v, slots, n, window);
+            match g {
+                Features::Refused(r) => stop(r, DAEMON, numbers, counts),
+                Features::Past {
+                    at: info_at,
+                    entries: m,
+                    count: featured,
+                } => {
+                    let o = pass_obsolete(client, offered_to, v);
+                    match o {
+                        Place::Refused(r) => stop(r, CLIENT, numbers, counts),
+                        Place::Past(ends) => {
+                            let t = judge_version(daemon, info_at, v, slots, m, window);
+                            let i = judge_info(t, daemon, v);
+                            let said = tell(i, c, d, offered, featured, ends, numbers, counts);
+                            let major = (v / 256) as u16;
+                            let minor = (v % 256) as u8;
+                            Greeted {
+                                said,
+                                offers: walk_items::layout(major, minor, table::FEATURES_CLIENT),
+                                features: walk_items::layout(major, minor, table::FEATURES_DAEMON),
+                                info: walk_items::layout(major, minor, table::INFO),
+                                info_at,
+                            }
+                        }
+                    }
+                }
+            }
+        }
+    }
 }
 
 // Both streams, each from its start, with so many slots for entries.
-fn judge_handshake(client: &[u8], daemon: &[u8], slots: usize) -> Greeted
-    ensures answer { λ r. ⌜ r .answer ≡ answerAs (parseHandshake (now (client .entry)) (now (daemon .entry)) slots) ⌝ }
-    ensures entries { λ r. ⌜ KeepsAll r false (version 0 0) (now (client .entry)) (now (daemon .entry)) slots ⌝ }
-{
-    let hello_client = walk_items::layout(0, 0, table::HELLO_CLIENT);
-    let hello_daemon = walk_items::layout(0, 0, table::HELLO_DAEMON);
-    let mut h = round(start(), client, daemon, hello_client, hello_daemon, slots);
-    let c = version_in(h, CLIENT_VERSION);
-    let d = version_in(h, DAEMON_VERSION);
-    let v = smaller(c, d);
-    let major = (v / 256) as u16;
-    let minor = (v % 256) as u8;
-    h = require_number(h, CLIENT_MAGIC, WORKER_MAGIC_1, NO_CLIENT);
-    h = require_number(h, DAEMON_MAGIC, WORKER_MAGIC_2, NO_DAEMON);
-    let offers = walk_items::layout(major, minor, table::FEATURES_CLIENT);
-    let offers_at = h.ends;
-    let features = walk_items::layout(major, minor, table::FEATURES_DAEMON);
-    let features_at = h.ends2;
-    h = round(h, client, daemon, offers, features, slots);
-    let obsolete = walk_items::layout(major, minor, table::OBSOLETE);
-    let info = walk_items::layout(major, minor, table::INFO);
-    let info_at = h.ends2;
-    h = round(h, client, daemon, obsolete, info, slots);
-    let client_version = version_in(h, CLIENT_VERSION);
-    Greeted {
-        answer: finish(h, client_version),
-        offers,
-        offers_at,
-        features,
-        features_at,
-        info,
-        info_at,
-    }
-}
-
-// The daemon's side alone, against a given client version. The client's turns have no fields, so that its stream is not read: any will do.
-fn judge_daemon_handshake(major: u16, minor: u8, daemon: &[u8], slots: usize) -> Greeted
-    ensures answer { λ r. ⌜ r .answer ≡ answerAs (parseDaemonHandshake (version major minor) (now (daemon .entry)) slots) ⌝ }
-    ensures entries { λ r. ⌜ ((s : List ℕ) → KeepsAll r true (version major minor) s (now (daemon .entry)) slots) ⌝ }
-{
-    let nothing = walk_items::layout(0, 0, table::NOTHING);
-    let hello = walk_items::layout(0, 0, table::HELLO_DAEMON);
-    let mut h = round(start(), daemon, daemon, nothing, hello, slots);
-    let c = 256 * major as u64 + minor as u64;
-    let v = smaller(c, version_in(h, DAEMON_VERSION));
-    let major = (v / 256) as u16;
-    let minor = (v % 256) as u8;
-    h = require_number(h, DAEMON_MAGIC, WORKER_MAGIC_2, NO_DAEMON);
-    let features = walk_items::layout(major, minor, table::FEATURES_DAEMON);
-    let features_at = h.ends2;
-    h = round(h, daemon, daemon, nothing, features, slots);
-    let info = walk_items::layout(major, minor, table::INFO);
-    let info_at = h.ends2;
-    h = round(h, daemon, daemon, nothing, info, slots);
-    Greeted {
-        answer: finish(h, c),
-        offers: nothing,
-        offers_at: 0,
-        features,
-        features_at,
-        info,
-        info_at,
-    }
-}
-
-// Both sides, or the daemon's alone against this client version.
-fn greet(client: &[u8], daemon: &[u8], alone: bool, major: u16, minor: u8, slots: usize) -> Greeted
-    ensures answer { λ r. ⌜ r .answer ≡ answerAs (parsed alone (version major minor) (now (client .entry)) (now (daemon .entry)) slots) ⌝ }
-    ensures entries { λ r. ⌜ KeepsAll r alone (version major minor) (now (client .entry)) (now (daemon .entry)) slots ⌝ }
-{
-    if alone {
-        return judge_daemon_handshake(major, minor, daemon, slots);
-    }
-    judge_handshake(client, daemon, slots)
-}
-
-// Start and length of each string that is kept, if all is fine: the client's features, the daemon's, and its version string.
-fn read(
+fn judge_handshake(
     client: &[u8],
     daemon: &[u8],
-    alone: bool,
+    slots: usize,
+    window: &mut [u64; 16],
+    numbers: &mut [u64; 12],
+    counts: &mut [u64; 3],
+) -> Greeted
+    ensures { λ r. ⌜ GreetsBoth handshake start (now (client .entry)) (now (daemon .entry)) slots (now (window .entry)) r (now (numbers .exit)) (now (counts .exit)) (now (window .exit)) ⌝ }
+{
+    let a = judge_hello(client);
+    match a {
+        Hello::Refused(r) => stop(r, CLIENT, numbers, counts),
+        Hello::Said { magic: asks, wire } => {
+            let b = judge_hello(daemon);
+            match b {
+                Hello::Refused(r) => stop(r, DAEMON, numbers, counts),
+                Hello::Said {
+                    magic: tells,
+                    wire: other,
+                } => {
+                    if asks != WORKER_MAGIC_1 {
+                        return stop(
+                            layouts::refuse(layouts::CLIENT_MAGIC_WRONG, 0),
+                            CLIENT,
+                            numbers,
+                            counts,
+                        );
+                    }
+                    if tells != WORKER_MAGIC_2 {
+                        return stop(
+                            layouts::refuse(layouts::DAEMON_MAGIC_WRONG, 0),
+                            DAEMON,
+                            numbers,
+                            counts,
+                        );
+                    }
+                    greet(
+                        client,
+                        daemon,
+                        wire % 65536,
+                        other % 65536,
+                        slots,
+                        window,
+                        numbers,
+                        counts,
+                    )
+                }
+            }
+        }
+    }
+}
+
+// What follows the daemon's magic, against a client of version c.
+fn greet_alone(
+    daemon: &[u8],
+    c: u64,
+    d: u64,
+    slots: usize,
+    window: &mut [u64; 16],
+    numbers: &mut [u64; 12],
+    counts: &mut [u64; 3],
+) -> Greeted
+    requires { ⌜ d < 65536 ⌝ }
+    ensures { λ r. ⌜ ((m2 w2 : ℕ) → versionIn d ≡ fromWire w2
+        → GreetsAlone (versionIn c) (daemonGreeting (smaller (versionIn c) (fromWire w2))) (metAt 0 0 m2 w2 0 0 0 0 16) (now (daemon .entry)) slots (now (window .entry))
+        r (now (numbers .exit)) (now (counts .exit)) (now (window .exit))) ⌝ }
+{
+    let v = smaller(c, d);
+    let g = judge_features(daemon, HELLO_END, v, slots, 0, window);
+    match g {
+        Features::Refused(r) => stop(r, DAEMON, numbers, counts),
+        Features::Past {
+            at: info_at,
+            entries: m,
+            count: featured,
+        } => {
+            let t = judge_version(daemon, info_at, v, slots, m, window);
+            let i = judge_info(t, daemon, v);
+            let said = tell(i, c, d, 0, featured, 0, numbers, counts);
+            let major = (v / 256) as u16;
+            let minor = (v % 256) as u8;
+            Greeted {
+                said,
+                offers: walk_items::layout(major, minor, table::NOTHING),
+                features: walk_items::layout(major, minor, table::FEATURES_DAEMON),
+                info: walk_items::layout(major, minor, table::INFO),
+                info_at,
+            }
+        }
+    }
+}
+
+// The daemon's side alone, against a given client version.
+fn judge_daemon_handshake(
     major: u16,
     minor: u8,
-    words: &mut [u64],
-    bytes: &mut [u8],
-) -> Answer
-    ensures answer { λ r. ⌜ r ≡ handshakeFilled alone (version major minor) (now (client .entry)) (now (daemon .entry)) (now (words .entry)) (now (bytes .entry)) .answer ⌝ }
-    ensures words { λ r. ⌜ now (words .exit) ≡ handshakeFilled alone (version major minor) (now (client .entry)) (now (daemon .entry)) (now (words .entry)) (now (bytes .entry)) .words ⌝ }
-    ensures bytes { λ r. ⌜ now (bytes .exit) ≡ handshakeFilled alone (version major minor) (now (client .entry)) (now (daemon .entry)) (now (words .entry)) (now (bytes .entry)) .bytes ⌝ }
+    daemon: &[u8],
+    slots: usize,
+    window: &mut [u64; 16],
+    numbers: &mut [u64; 12],
+    counts: &mut [u64; 3],
+) -> Greeted
+    ensures { λ r. ⌜ GreetsAlone (version major minor) (daemonHandshake (version major minor)) start (now (daemon .entry)) slots (now (window .entry))
+        r (now (numbers .exit)) (now (counts .exit)) (now (window .exit)) ⌝ }
 {
-    let g = greet(
-        client,
-        daemon,
-        alone,
-        major,
-        minor,
-        entries::slots(words, bytes),
-    );
-    let answer = g.answer;
-    let o = answer.outcome;
-    let Outcome::Fine = o else {
-        return answer;
-    };
-    let n = walk_fill::fill_entries(client, g.offers_at, g.offers, words, 0, bytes, 0);
+    let b = judge_hello(daemon);
+    match b {
+        Hello::Refused(r) => stop(r, DAEMON, numbers, counts),
+        Hello::Said { magic, wire } => {
+            if magic != WORKER_MAGIC_2 {
+                return stop(
+                    layouts::refuse(layouts::DAEMON_MAGIC_WRONG, 0),
+                    DAEMON,
+                    numbers,
+                    counts,
+                );
+            }
+            let c = 256 * major as u64 + minor as u64;
+            greet_alone(daemon, c, wire % 65536, slots, window, numbers, counts)
+        }
+    }
+}
+
+// The turns that keep strings, one after the other: the client's features, the daemon's, and its version string.
+fn fill_turns(client: &[u8], daemon: &[u8], g: Greeted, words: &mut [u64], bytes: &mut [u8])
+    ensures words { λ r. ⌜ now (words .exit) ≡ sets (now (words .entry)) 0 (keptBy g (now (client .entry)) (now (daemon .entry))) ⌝ }
+    ensures bytes { λ r. ⌜ now (bytes .exit) ≡ sets (now (bytes .entry)) 0 (bytesOf (keptBy g (now (client .entry)) (now (daemon .entry)))) ⌝ }
+{
+    let n = walk_fill::fill_entries(client, HELLO_END, g.offers, words, 0, bytes, 0);
     let m = walk_fill::fill_entries(
         daemon,
-        g.features_at,
+        HELLO_END,
         g.features,
         words,
         n.words,
@@ -353,7 +577,79 @@ fn read(
         n.bytes,
     );
     walk_fill::fill_entries(daemon, g.info_at, g.info, words, m.words, bytes, m.bytes);
-    answer
+}
+
+// Both streams, each from its start. What the window has is not gone through again. `read_alone` ends in the same lines: as one function they would stay out of line.
+fn read(
+    client: &[u8],
+    daemon: &[u8],
+    words: &mut [u64],
+    bytes: &mut [u8],
+    numbers: &mut [u64; 12],
+    counts: &mut [u64; 3],
+) -> Said
+    ensures answer { λ r. ⌜ answerOf r (now (numbers .exit)) (now (counts .exit)) ≡ bothFilled (now (client .entry)) (now (daemon .entry)) (now (words .entry)) (now (bytes .entry)) .answer ⌝ }
+    ensures words { λ r. ⌜ now (words .exit) ≡ bothFilled (now (client .entry)) (now (daemon .entry)) (now (words .entry)) (now (bytes .entry)) .words ⌝ }
+    ensures bytes { λ r. ⌜ now (bytes .exit) ≡ bothFilled (now (client .entry)) (now (daemon .entry)) (now (words .entry)) (now (bytes .entry)) .bytes ⌝ }
+{
+    let mut window = [0u64; 16];
+    let slots = entries::slots(words, bytes);
+    let g = judge_handshake(client, daemon, slots, &mut window, numbers, counts);
+    let said = g.said;
+    let Said::Fine {
+        kind: _,
+        ends: _,
+        ends2: _,
+        entries,
+        payload: _,
+        present: _,
+    } = said
+    else {
+        return said;
+    };
+    if walk_take::WINDOW < entries {
+        fill_turns(client, daemon, g, words, bytes);
+        return said;
+    }
+    walk_rooms::put_window(&window, entries, words, bytes);
+    said
+}
+
+// The daemon's side alone. Of the client no stream is read: any is lent in its place.
+fn read_alone(
+    major: u16,
+    minor: u8,
+    daemon: &[u8],
+    words: &mut [u64],
+    bytes: &mut [u8],
+    numbers: &mut [u64; 12],
+    counts: &mut [u64; 3],
+) -> Said
+    ensures answer { λ r. ⌜ answerOf r (now (numbers .exit)) (now (counts .exit)) ≡ aloneFilled (version major minor) (now (daemon .entry)) (now (words .entry)) (now (bytes .entry)) .answer ⌝ }
+    ensures words { λ r. ⌜ now (words .exit) ≡ aloneFilled (version major minor) (now (daemon .entry)) (now (words .entry)) (now (bytes .entry)) .words ⌝ }
+    ensures bytes { λ r. ⌜ now (bytes .exit) ≡ aloneFilled (version major minor) (now (daemon .entry)) (now (words .entry)) (now (bytes .entry)) .bytes ⌝ }
+{
+    let mut window = [0u64; 16];
+    let slots = entries::slots(words, bytes);
+    let g = judge_daemon_handshake(major, minor, daemon, slots, &mut window, numbers, counts);
+    let said = g.said;
+    let Said::Fine {
+        kind: _,
+        ends: _,
+        ends2: _,
+        entries,
+        payload: _,
+        present: _,
+    } = said
+    else {
+        return said;
+    };
+    if walk_take::WINDOW < entries {
+        fill_turns(daemon, daemon, g, words, bytes);
+        return said;
+    }
+    walk_rooms::put_window(&window, entries, words, bytes);
+    said
 }
 
 // Both streams, each from its start.
@@ -362,37 +658,68 @@ pub fn parse_handshake(client: &[u8], daemon: &[u8], entries: &mut [u64]) -> Ans
     ensures entries { λ r. ⌜ now (entries .exit) ≡ bothRead (now (client .entry)) (now (daemon .entry)) (length (now (entries .entry)) / 2) (λ x. x) (now (entries .entry)) .entries ⌝ }
 {
     let mut none: [u8; 0] = [];
-    read(client, daemon, false, 0, 0, entries, &mut none)
+    let mut numbers = [0u64; 12];
+    let mut counts = [0u64; 3];
+    let said = read(
+        client,
+        daemon,
+        entries,
+        &mut none,
+        &mut numbers,
+        &mut counts,
+    );
+    walk_judge::answer_of(said, numbers, counts)
 }
 
-// The same with entries of sixteen bytes.
-pub fn parse_handshake_bytes(client: &[u8], daemon: &[u8], entries: &mut [u8]) -> Answer
-    ensures answer { λ r. ⌜ r ≡ bothRead (now (client .entry)) (now (daemon .entry)) (length (now (entries .entry)) / 16) bytesOf (now (entries .entry)) .answer ⌝ }
+// The same with entries of sixteen bytes, and with the numbers and counts beside what is said.
+pub fn parse_handshake_bytes(
+    client: &[u8],
+    daemon: &[u8],
+    entries: &mut [u8],
+    numbers: &mut [u64; 12],
+    counts: &mut [u64; 3],
+) -> Said
+    ensures answer { λ r. ⌜ answerOf r (now (numbers .exit)) (now (counts .exit))
+        ≡ bothRead (now (client .entry)) (now (daemon .entry)) (length (now (entries .entry)) / 16) bytesOf (now (entries .entry)) .answer ⌝ }
     ensures entries { λ r. ⌜ now (entries .exit) ≡ bothRead (now (client .entry)) (now (daemon .entry)) (length (now (entries .entry)) / 16) bytesOf (now (entries .entry)) .entries ⌝ }
 {
     let mut none: [u64; 0] = [];
-    read(client, daemon, false, 0, 0, &mut none, entries)
+    read(client, daemon, &mut none, entries, numbers, counts)
 }
 
-// The daemon's side alone, against a given client version. Of the client no stream is read: any is lent in its place.
+// The daemon's side alone, against a given client version.
 pub fn parse_daemon_handshake(major: u16, minor: u8, daemon: &[u8], entries: &mut [u64]) -> Answer
     ensures answer { λ r. ⌜ r ≡ aloneRead (version major minor) (now (daemon .entry)) (length (now (entries .entry)) / 2) (λ x. x) (now (entries .entry)) .answer ⌝ }
     ensures entries { λ r. ⌜ now (entries .exit) ≡ aloneRead (version major minor) (now (daemon .entry)) (length (now (entries .entry)) / 2) (λ x. x) (now (entries .entry)) .entries ⌝ }
 {
     let mut none: [u8; 0] = [];
-    read(daemon, daemon, true, major, minor, entries, &mut none)
+    let mut numbers = [0u64; 12];
+    let mut counts = [0u64; 3];
+    let said = read_alone(
+        major,
+        minor,
+        daemon,
+        entries,
+        &mut none,
+        &mut numbers,
+        &mut counts,
+    );
+    walk_judge::answer_of(said, numbers, counts)
 }
 
-// The same with entries of sixteen bytes.
+// The same with entries of sixteen bytes, and with the numbers and counts beside what is said.
 pub fn parse_daemon_handshake_bytes(
     major: u16,
     minor: u8,
     daemon: &[u8],
     entries: &mut [u8],
-) -> Answer
-    ensures answer { λ r. ⌜ r ≡ aloneRead (version major minor) (now (daemon .entry)) (length (now (entries .entry)) / 16) bytesOf (now (entries .entry)) .answer ⌝ }
+    numbers: &mut [u64; 12],
+    counts: &mut [u64; 3],
+) -> Said
+    ensures answer { λ r. ⌜ answerOf r (now (numbers .exit)) (now (counts .exit))
+        ≡ aloneRead (version major minor) (now (daemon .entry)) (length (now (entries .entry)) / 16) bytesOf (now (entries .entry)) .answer ⌝ }
     ensures entries { λ r. ⌜ now (entries .exit) ≡ aloneRead (version major minor) (now (daemon .entry)) (length (now (entries .entry)) / 16) bytesOf (now (entries .entry)) .entries ⌝ }
 {
     let mut none: [u64; 0] = [];
-    read(daemon, daemon, true, major, minor, &mut none, entries)
+    read_alone(major, minor, daemon, &mut none, entries, numbers, counts)
 }

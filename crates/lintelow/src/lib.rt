@@ -161,8 +161,16 @@ pub extern "C" fn lintelow_parse_handshake(
     if block.len() < lintelow_answers::BLOCK {
         return layouts::OUTPUT_FULL;
     }
-    let greeted = handshake::parse_handshake_bytes(client, daemon, entries);
-    lintelow_answers::put(block, greeted)
+    let mut numbers = [0u64; 12];
+    let mut counts = [0u64; 3];
+    let greeted = handshake::parse_handshake_bytes(
+        client,
+        daemon,
+        entries,
+        &mut numbers,
+        &mut counts,
+    );
+    lintelow_answers::put_said(block, greeted, numbers, counts)
 }
 
 #[no_mangle]
@@ -180,6 +188,15 @@ pub extern "C" fn lintelow_parse_daemon_handshake(
     if block.len() < lintelow_answers::BLOCK {
         return layouts::OUTPUT_FULL;
     }
-    let heard = handshake::parse_daemon_handshake_bytes(major, minor, daemon, entries);
-    lintelow_answers::put(block, heard)
+    let mut numbers = [0u64; 12];
+    let mut counts = [0u64; 3];
+    let heard = handshake::parse_daemon_handshake_bytes(
+        major,
+        minor,
+        daemon,
+        entries,
+        &mut numbers,
+        &mut counts,
+    );
+    lintelow_answers::put_said(block, heard, numbers, counts)
 }

@@ -2,20 +2,25 @@
 // ended.
 ghost use mathlib.Core.Path.{_≡_};
 ghost use mathlib.Core.List.{[]};
-ghost use Rattle.layouts.specs.Primitive.{version};
+ghost use mathlib.Core.Bool.{false};
+ghost use Prim.Native.Nat.{ℕ};
+ghost use Rattle.layouts.specs.Primitive.{Version, version};
 ghost use Rattle.layouts.specs.Refusal.{refusedBy};
 ghost use Rattle.layouts.specs.Pieces.{run, skipOf};
 ghost use Rattle.layouts.specs.Judge.{entriesOf};
 ghost use Rattle.layouts.specs.Calls.{context, skippedTree, skipOpArgs, skipDaemonResult};
+ghost use Rattle.table.specs.Table.{kindNumbered};
 ghost use Rattle.walk_items.specs.Items.{versionOf, piecesOf};
 ghost use Rattle.walk_judge.specs.Judged.{answerOf};
 ghost use Rattle.walk_read.specs.Reading.{readBy, answeredAs};
 ghost use Rattle.walk_pass.specs.Skip.{skipped};
+ghost use Rattle.walk_shapes.specs.Shapes.{textPieces, textRead};
 ghost use Rattle.protocol.specs.Protocol.{argumentsRead, replyRead, argumentsAs};
 ghost use Rattle.protocol.specs.Bytes as B;
 use layouts::Mode;
 use layouts::Refusal;
 use numbers::Number;
+use pieces::Verdict;
 use table_operations::Shape;
 use walk_items::Brief;
 use walk_items::Layout;
@@ -150,6 +155,24 @@ fn skip_layout(s: &[u8], layout: Layout, code: u8) -> Arguments
     }
 }
 
+// A layout of one string, which is answered.
+fn skip_string(s: &[u8], kind: u64) -> Arguments
+    ensures { λ r. ⌜ ((v : Version) (code : ℕ) → kind ≡ kindNumbered v false code → r ≡ argumentsAs (answeredAs v code (textRead (now (s .entry)) 1 0)) (entriesOf (textPieces (now (s .entry))))) ⌝ }
+{
+    let t = pieces::string_at(s, 0, true);
+    match t {
+        Verdict::Refused(r) => refused_arguments(r),
+        Verdict::Fine { start, len, next } => Arguments {
+            outcome: Outcome::Fine,
+            kind,
+            ends: next,
+            count: 0,
+            start: start as u64,
+            len: len as u64,
+        },
+    }
+}
+
 // Stops before framed data, and checks the text of no string but the one that it answers.
 pub fn skip_op_args(mode: Mode, op: u64, major: u16, minor: u8, s: &[u8]) -> Arguments
     ensures { λ r. ⌜ r ≡ argumentsAs (skipOpArgs (context mode op major minor) (now (s .entry))) (entriesOf (run (skippedTree (context mode op major minor)) (now (s .entry)) 0)) ⌝ }
@@ -160,6 +183,10 @@ pub fn skip_op_args(mode: Mode, op: u64, major: u16, minor: u8, s: &[u8]) -> Arg
         Shape::At { first, kind } => {
             let layout = walk_items::layout(major, minor, first);
             let b = walk_items::in_brief(layout);
+            if let Brief::Text = b {
+                let one = table_operations::kind_of(kind, walk_items::spoken(layout), false);
+                return skip_string(s, one);
+            }
             let Brief::Nothing = b else {
                 return skip_layout(s, layout, kind);
             };
@@ -233,7 +260,22 @@ pub fn read_daemon_result_bytes(
     )
 }
 
-// The layout at the start of the stream; one without fields, or of one number, needs no fold.
+// A layout of one string, with no look at its contents.
+fn skip_text(s: &[u8]) -> Passed
+    ensures { λ r. ⌜ skipped r ≡ skipOf (textPieces (now (s .entry))) ⌝ }
+{
+    let t = pieces::string_at(s, 0, false);
+    match t {
+        Verdict::Refused(r) => Passed::Refused(r),
+        Verdict::Fine {
+            start: _,
+            len: _,
+            next,
+        } => Passed::Past(next),
+    }
+}
+
+// The layout at the start of the stream; one without fields, or of one number or string, needs no fold.
 fn skip_brief(s: &[u8], layout: Layout) -> Passed
     ensures { λ r. ⌜ skipped r ≡ skipOf (piecesOf layout (now (s .entry)) 0) ⌝ }
 {
@@ -247,6 +289,7 @@ fn skip_brief(s: &[u8], layout: Layout) -> Passed
                 Number::Value(_) => Passed::Past(8),
             }
         }
+        Brief::Text => skip_text(s),
         Brief::Longer => walk_pass::skip(s, 0, layout),
     }
 }

@@ -4,7 +4,7 @@ use mathlib.Core.Path.{_≡_, refl}
 use mathlib.Core.List.{List, [], _∷_, _++_, map}
 use Rattle.layouts.specs.Primitive.{version}
 use Rattle.layouts.specs.Shape.{asCount, kept, set, framed, Group, once, layout}
-use Rattle.layouts.specs.Operations.{argumentsNumber, replyNumber, skippedNumber, Kinds, none, only, byVersion, byFlag, byNumber, skippedKind, Operation, aNumber, operations, published}
+use Rattle.layouts.specs.Operations.{argumentsNumber, replyNumber, skippedNumber, Kinds, none, only, byVersion, byFlag, byNumber, skippedKind, Operation, aNumber, aString, operations, published}
 use Rattle.layouts.specs.Calls.{field}
 use Rattle.layouts.specs.Stderr.{Next, Read, Write, StartActivity, StopActivity, Result#, goes, messageOf, portedError, tracedError, shortError}
 use Rattle.layouts.specs.Handshake.{hello, featureFields, obsoleteFields, infoFields}
@@ -86,6 +86,7 @@ pub record Others : Type 0 where
   pub none : [] ≡ groupsAt P.nothing
   pub empty : once [] ∷ [] ≡ groupsAt P.emptyFields
   pub number : aNumber ≡ groupsAt P.oneNumber
+  pub string : aString ≡ groupsAt P.oneString
 
 pub others : Others
 unfolding messageOf groupsAt groupsIn consGroup groupOf itemsAt items consGated unlessEnd itemOf whatOf targetOf roleOf packedTable
@@ -111,4 +112,5 @@ others =
       none = refl;
       empty = refl;
       number = refl;
+      string = refl;
     }

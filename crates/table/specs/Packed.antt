@@ -311,6 +311,9 @@ emptyFields = 20
 abbrev pub oneNumber : ℕ
 oneNumber = 2
 
+abbrev pub oneString : ℕ
+oneString = 0
+
 -- the kinds that a version or a flag decides; their codes count from here on
 abbrev pub firstCode : ℕ
 firstCode = 32

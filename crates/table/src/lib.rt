@@ -14,6 +14,7 @@ pub use places::NOTHING;
 pub use places::NUMBER_MESSAGE;
 pub use places::OBSOLETE;
 pub use places::ONE_NUMBER;
+pub use places::ONE_STRING;
 pub use places::PORTED_ERROR;
 pub use places::RESULT_MESSAGE;
 pub use places::SHORT_ERROR;

@@ -59,6 +59,9 @@ pub const EMPTY_FIELDS: u8 = 20;
 // N
 pub const ONE_NUMBER: u8 = 2;
 
+// S
+pub const ONE_STRING: u8 = 0;
+
 // ---- the layouts of operations, each named after its definition, or else after the first operation that has it
 
 // nothing

@@ -1,5 +1,5 @@
 -- How code goes over a list: a step past one character or past ASCII (`Step`), and what is known where it stands (`Upto`).
-use Prim.Native.Nat.{ℕ, _+_, _-_, _≤_, _<_}
+use Prim.Native.Nat.{ℕ, zero, suc, _+_, _-_, _≤_, _<_}
 use mathlib.Core.Path.{_≡_, refl, sym, _∙_}
 use mathlib.Core.List.{List, [], _∷_, _++_}
 use mathlib.Core.Bool.{Bool, true, false, _&&_, false≢true}
@@ -37,7 +37,7 @@ plain-step n s t z h e =
     }
 
 -- the list that the code's `&s[i..]` is
-part : (s : List ℕ) (i : ℕ) → take (length s - i) (drop i s) ≡ drop i s
+pub part : (s : List ℕ) (i : ℕ) → take (length s - i) (drop i s) ≡ drop i s
 part s i = take-all (length s - i) (drop i s) (omega (arith, length-drop i s))
 
 -- ---- ASCII in one part and in the next
@@ -46,21 +46,42 @@ plain-append [] t h g = g
 plain-append (a ∷ p) t h g =
     let k = T-and (leb a 0x7F) (allPlain p) .0 h in T-and (leb a 0x7F) (allPlain (p ++ t)) .1 (k .0, plain-append p t (k .1) g)
 
-both : (p q : Bool) → p && q ≡ true → (p ≡ true) × (q ≡ true)
+pub both : (p q : Bool) → p && q ≡ true → (p ≡ true) × (q ≡ true)
 both true true e = (refl, refl)
 both true false e = absurd (false≢true e)
 both false q e = absurd (false≢true e)
 
-pub plain-join : (n m : ℕ) (s : List ℕ) (p q : Bool) → n ≤ length s → (p ≡ true → PlainFor n s) → (q ≡ true → PlainFor m (take (length s - n) (drop n s)))
-    → p && q ≡ true → PlainFor (n + m) s
-plain-join n m s p q l h g e =
-    let b = both p q e in
-    let x = h (b .0) in
-    let y : PlainFor m (drop n s) = rw (part s n) at (g (b .1)) in
+pub plain-more : (n m : ℕ) (s : List ℕ) (q : Bool) → PlainFor n s → (q ≡ true → PlainFor m (take (length s - n) (drop n s))) → q ≡ true → PlainFor (n + m) s
+plain-more n m s q x g e =
+    let y : PlainFor m (drop n s) = rw (part s n) at (g e) in
     record {
-      there = omega (arith, y .there, length-drop n s);
+      there = omega (arith, x .there, y .there, length-drop n s);
       ascii = rw (take-add n m s) (plain-append (take n s) (take m (drop n s)) (x .ascii) (y .ascii));
     }
+
+pub plain-join : (n m : ℕ) (s : List ℕ) (p q : Bool) → (p ≡ true → PlainFor n s) → (q ≡ true → PlainFor m (take (length s - n) (drop n s)))
+    → p && q ≡ true → PlainFor (n + m) s
+plain-join n m s p q h g e = let b = both p q e in plain-more n m s q (h (b .0)) g (b .1)
+
+-- ---- ASCII from the start and to the end, where the two may overlap
+plain-less : (m n : ℕ) (s : List ℕ) → m ≤ n → T (allPlain (take n s)) → T (allPlain (take m s))
+plain-less zero n s h t = tt
+plain-less (suc m) zero s h t = absurd (omega arith)
+plain-less (suc m) (suc n) [] h t = tt
+plain-less (suc m) (suc n) (a ∷ s) h t =
+    let k = T-and (leb a 0x7F) (allPlain (take n s)) .0 t in T-and (leb a 0x7F) (allPlain (take m s)) .1 (k .0, plain-less m n s (omega arith) (k .1))
+
+pub plain-last : (k n : ℕ) (s : List ℕ) (q : Bool) → PlainFor n s → k ≤ length s → length s - k ≤ n
+    → (q ≡ true → PlainFor k (take (length s - (length s - k)) (drop (length s - k) s))) → q ≡ true → PlainFor (length s) s
+plain-last k n s q x h l g e =
+    let m = length s - k in
+    let b : PlainFor m s = record { there = omega arith; ascii = plain-less m n s l (x .ascii) } in
+    let w : length s - k + k ≡ length s = omega arith in
+    rw w at (plain-more m k s q b g e)
+
+pub plain-ends : (k n : ℕ) (s : List ℕ) (p q : Bool) → k ≤ length s → length s ≤ n + k
+    → (p ≡ true → PlainFor n s) → (q ≡ true → PlainFor k (take (length s - (length s - k)) (drop (length s - k) s))) → p && q ≡ true → PlainFor (length s) s
+plain-ends k n s p q h l f g e = let b = both p q e in plain-last k n s q (f (b .0)) h (omega arith) g (b .1)
 
 -- ---- the loop
 pub record Upto (s : List ℕ) (i : ℕ) : Type 0 where

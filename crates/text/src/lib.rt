@@ -1,12 +1,14 @@
 // Judges whether bytes are text, by RFC 3629. `specs/Prefix.antt` has what the contracts cite; `proofs/Meaning.antt` proves that it is the
 // RFC's grammar, `specs/Rfc3629.antt`.
+ghost use Prim.Native.Nat.{_≤_, _<_};
 ghost use mathlib.Core.Path.{_≡_};
 ghost use mathlib.Core.Bool.{true, cond};
 ghost use mathlib.Core.List.{[], _∷_};
 ghost use lib.Dec.{T};
-ghost use lib.ListN.{getD};
-ghost use Rattle.text.specs.Rfc3629.{Judged};
+ghost use lib.ListN.{length, getD};
+ghost use Rattle.text.specs.Rfc3629.{Text, Judged};
 ghost use Rattle.text.specs.Prefix.{low, high, second, tail, isTwo, isThree, isFour, longer, charLength, goodPrefix, allPlain, PlainFor, Step};
+use text_states::run_states;
 
 // The highest bit of each of eight bytes: set in none that is ASCII.
 const HIGH_BITS: u64 = 0x8080_8080_8080_8080;
@@ -151,8 +153,96 @@ fn step(s: &[u8]) -> usize
     char_length(s)
 }
 
-// The length of the longest beginning of s that is text: below s's length, it is the place of the first byte that begins no character.
-pub fn text_end(s: &[u8]) -> usize
+// How many bytes of ASCII s begins with, as far as they fill 32.
+fn plain_length(s: &[u8]) -> usize
+    ensures { λ r. ⌜ PlainFor r (now (s .entry)) ⌝ }
+{
+    let mut n = 0;
+    while many_plain(&s[n..]) {
+        n += 32;
+    }
+    n
+}
+
+fn sixteen_plain(s: &[u8]) -> bool
+    ensures { λ r. ⌜ (r ≡ true → PlainFor 16 (now (s .entry))) ⌝ }
+{
+    if s.len() < 16 {
+        return false;
+    }
+    eight_plain(s) & eight_plain(&s[8..])
+}
+
+// Is all of a short s ASCII? It is looked at from its start and from its end, where the two may overlap.
+fn short_plain(s: &[u8]) -> bool
+    ensures { λ r. ⌜ (r ≡ true → PlainFor (length (now (s .entry))) (now (s .entry))) ⌝ }
+{
+    let len = s.len();
+    if len < 8 {
+        return false;
+    }
+    if len <= 16 {
+        return eight_plain(s) & eight_plain(&s[len - 8..]);
+    }
+    if 32 < len {
+        return false;
+    }
+    sixteen_plain(s) & sixteen_plain(&s[len - 16..])
+}
+
+// Is s ASCII behind its first n bytes too? One look tells where they fill 32 as far as they can: the last 32 may overlap them.
+fn ends_plain(s: &[u8], n: usize) -> bool
+    requires { ⌜ PlainFor n (now s) ⌝ }
+    ensures { λ r. ⌜ (r ≡ true → PlainFor (length (now (s .entry))) (now (s .entry))) ⌝ }
+{
+    let len = s.len();
+    if len < 32 {
+        return short_plain(s);
+    }
+    if n < len - 32 {
+        return false;
+    }
+    many_plain(&s[len - 32..])
+}
+
+// Where the bytes end that the machine goes over at once, from i on: 16, or what is left.
+fn block_end(i: usize, len: usize) -> usize
+    requires { ⌜ i < len ⌝ }
+    ensures { λ r. ⌜ (i < r) × (r ≤ len) ⌝ }
+{
+    if len - i < 16 {
+        return len;
+    }
+    i + 16
+}
+
+// `true` says that all of s is text, `false` says nothing. What is ASCII from end to end, as most is, goes by in a loop of its own, the shortest. Else ASCII between
+// characters goes by in 32 and in eight bytes, and the rest through the machine of `text_states`, which branches on no byte.
+fn surely_text(s: &[u8]) -> bool
+    ensures { λ r. ⌜ (r ≡ true → Text (now (s .entry))) ⌝ }
+{
+    let n = plain_length(s);
+    if ends_plain(s, n) {
+        return true;
+    }
+    let mut i = n;
+    let mut state = 0;
+    while i < s.len() {
+        if (state == 0) & many_plain(&s[i..]) {
+            i += 32;
+        } else if (state == 0) & eight_plain(&s[i..]) {
+            i += 8;
+        } else {
+            let end = block_end(i, s.len());
+            state = run_states(state, &s[i..end]);
+            i = end;
+        }
+    }
+    state == 0
+}
+
+// The length of the longest beginning of s that is text, character by character.
+fn first_wrong(s: &[u8]) -> usize
     ensures { λ r. ⌜ r ≡ goodPrefix (now (s .entry)) ⌝ }
 {
     let mut i = 0;
@@ -164,6 +254,16 @@ pub fn text_end(s: &[u8]) -> usize
         i += n;
     }
     i
+}
+
+// The length of the longest beginning of s that is text: below s's length, it is the place of the first byte that begins no character.
+pub fn text_end(s: &[u8]) -> usize
+    ensures { λ r. ⌜ r ≡ goodPrefix (now (s .entry)) ⌝ }
+{
+    if surely_text(s) {
+        return s.len();
+    }
+    first_wrong(s)
 }
 
 // Is all of s text?

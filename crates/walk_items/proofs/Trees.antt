@@ -11,7 +11,7 @@ use Rattle.layouts.specs.Shape.{What, Gated, always, from, below, Group, Tree, 
 use Rattle.layouts.specs.Pieces.{run}
 use Rattle.table.specs.declared.Field.{Field}
 use Rattle.table.specs.declared.PackedGroup.{PackedGroup}
-use Rattle.table.specs.Packed.{size, packedTable, nothing, emptyFields, oneNumber}
+use Rattle.table.specs.Packed.{size, packedTable, nothing, emptyFields, oneNumber, oneString}
 use Rattle.table.specs.Table.{fieldAt, groupAt, roleOf, targetOf, whatOf, itemOf, unlessEnd, consGated, items, itemsAt, groupOf, consGroup, groupsAt}
 use Rattle.table.specs.Claims.{others}
 use Rattle.table.proofs.Tables.{items-step, groups-step, field-in, group-in}
@@ -228,8 +228,13 @@ module _ (l i : ℕ) (q : i ≡ firstOf l) where
       unfolding layout groups group fields gated field
       brief-number e = (rw (← q, ne-eqb i nothing a, ne-eqb i emptyFields b, eq-eqb i oneNumber e), rw (← q, e, ← others .number))
 
-      pub brief-longer : (i ≡ oneNumber → ⊥) → InBrief B.Longer
-      brief-longer c = (rw (← q, ne-eqb i nothing a, ne-eqb i emptyFields b, ne-eqb i oneNumber c), tt)
+      module _ (c : i ≡ oneNumber → ⊥) where
+        pub brief-text : i ≡ oneString → InBrief B.Text
+        unfolding layout groups group fields gated field
+        brief-text e = (rw (← q, ne-eqb i nothing a, ne-eqb i emptyFields b, ne-eqb i oneNumber c, eq-eqb i oneString e), rw (← q, e, ← others .string))
+
+        pub brief-longer : (i ≡ oneString → ⊥) → InBrief B.Longer
+        brief-longer d = (rw (← q, ne-eqb i nothing a, ne-eqb i emptyFields b, ne-eqb i oneNumber c, ne-eqb i oneString d), tt)
 
 -- ---- where a layout begins
 first-group : (l : ℕ) → layoutTree l ≡ groupTree (versionOf l) 0 size (firstOf l) tt

@@ -6,11 +6,11 @@ use mathlib.Core.Bool.{Bool, true, not}
 use lib.ListN.{length}
 use lib.Dec.{eqb, ltb}
 use Rattle.layouts.specs.Primitive.{pick, Version, version, atLeast}
-use Rattle.layouts.specs.Shape.{asNumber, Tree, ask, stop, field, fields, repeated, groups, layout, truth, units, ifTrue, byType, ifZero}
+use Rattle.layouts.specs.Shape.{asNumber, kept, Tree, ask, say, stop, field, fields, repeated, groups, layout, truth, units, ifTrue, byType, ifZero}
 use Rattle.layouts.specs.Pieces.{Pieces, run}
 use Rattle.table.specs.declared.Field.{Field}
 use Rattle.table.specs.declared.PackedGroup.{PackedGroup}
-use Rattle.table.specs.Packed.{size, nothing, emptyFields, oneNumber}
+use Rattle.table.specs.Packed.{size, nothing, emptyFields, oneNumber, oneString}
 use Rattle.table.specs.Table.{fieldAt, groupAt, roleOf, targetOf, whatOf, itemsAt, groupsAt, versionIn}
 use Rattle.walk_items.specs.declared.Item.{Item}
 use Rattle.walk_items.specs.declared.Brief.{Brief}
@@ -35,13 +35,14 @@ layoutPieces v i s at = run (layout v (groupsAt i)) s at
 abbrev pub piecesOf : (layout : ℕ) → List ℕ → (at : ℕ) → Pieces
 piecesOf l s at = layoutPieces (versionOf l) (firstOf l) s at
 
--- ---- no field at all, or a number and no more
+-- ---- no field at all, or a number or a string and no more
 abbrev pub briefOf : (first : ℕ) → Brief
-briefOf i = pick (eqb i nothing) B.Nothing (pick (eqb i emptyFields) B.Nothing (pick (eqb i oneNumber) B.Number B.Longer))
+briefOf i = pick (eqb i nothing) B.Nothing (pick (eqb i emptyFields) B.Nothing (pick (eqb i oneNumber) B.Number (pick (eqb i oneString) B.Text B.Longer)))
 
 abbrev pub Briefly : Tree → Brief → Type 0
 Briefly t B.Nothing = t ≡ stop
 Briefly t B.Number = t ≡ ask (asNumber 0) (λ n. stop)
+Briefly t B.Text = t ≡ say kept (λ u. stop)
 Briefly t B.Longer = Unit {0}
 
 -- ---- a state: the place of the next field, how often the body comes again, the place of the body, the next group

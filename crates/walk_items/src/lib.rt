@@ -51,10 +51,11 @@ pub struct Item {
     pub group: usize,
 }
 
-// A layout that needs no fold: no field at all, or a number and no more. Many calls have such a one.
+// A layout that needs no fold: no field at all, or a number or a string and no more. More than half of recorded calls have such a one.
 pub enum Brief {
     Nothing,
     Number,
+    Text,
     Longer,
 }
 
@@ -71,6 +72,9 @@ pub fn in_brief(layout: Layout) -> Brief
     }
     if i == table::ONE_NUMBER as usize {
         return Brief::Number;
+    }
+    if i == table::ONE_STRING as usize {
+        return Brief::Text;
     }
     Brief::Longer
 }

@@ -80,7 +80,7 @@ module _ (l c : ℕ) where
       (ap (λ (t : Tree). entriesOf (run t s 0)) z ∙ h .0, ap (λ (t : Tree). payloadOf s (run t s 0)) z ∙ h .1)
 
 -- ---- for one who has matched on it: the answer, and rooms that stay
-lent-none : {A : Type 0} (o : Result A) (new lent : List ℕ) → new ≡ [] → lent ≡ filledAfter o new lent
+pub lent-none : {A : Type 0} (o : Result A) (new lent : List ℕ) → new ≡ [] → lent ≡ filledAfter o new lent
 lent-none (ok a) new lent e = ap (sets lent 0) (sym e)
 lent-none (refused which place stream) new lent e = refl
 

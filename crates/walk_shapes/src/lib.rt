@@ -2,20 +2,26 @@
 ghost use mathlib.Core.Path.{_≡_};
 ghost use mathlib.Core.List.{List};
 ghost use Prim.Native.Nat.{ℕ, _<_};
-ghost use Rattle.layouts.specs.Primitive.{version};
+ghost use Rattle.entries.specs.Entries.{slotsIn};
+ghost use Rattle.layouts.specs.Judge.{entriesOf};
+ghost use Rattle.layouts.specs.Primitive.{Version, version};
 ghost use Rattle.layouts.specs.Calls.{context};
 ghost use Rattle.table.specs.Packed.{firstCode};
 ghost use Rattle.walk_items.specs.Items.{versionOf, layoutTree, Briefly};
 ghost use Rattle.walk_items.specs.declared.Brief.the-variants as B;
 ghost use Rattle.walk_judge.specs.Judged.{answerOf, answerAs};
 ghost use Rattle.walk_read.specs.Reading.{readBy, answeredAs};
-ghost use Rattle.walk_shapes.specs.Shapes.{ReadInBrief, argumentsFilled, replyFilled};
+ghost use Rattle.walk_rooms.specs.Rooms.{filledAfter};
+ghost use Rattle.writers_output.specs.Numbers.{bytesOf};
+ghost use Rattle.walk_shapes.specs.Shapes.{ReadInBrief, textRead, textPieces, textTold, argumentsFilled, replyFilled};
 use layouts::Mode;
 use numbers::Number;
+use pieces::Verdict;
 use table_operations::Shape;
 use walk_items::Brief;
 use walk_items::Layout;
 use walk_judge::Said;
+use walk_strings::Passed;
 
 // A layout without fields: no fold is needed.
 fn read_nothing(layout: Layout, code: u8, numbers: &mut [u64; 12], counts: &mut [u64; 3]) -> Said
@@ -68,10 +74,53 @@ fn read_number(
     }
 }
 
+// A layout of one string: its entry goes into the rooms, and where it ends is answered.
+fn take_text(s: &[u8], words: &mut [u64], bytes: &mut [u8]) -> Passed
+    ensures answer { λ r. ⌜ ((room : ℕ) → textTold r ≡ textRead (now (s .entry)) (slotsIn (now (words .entry)) (now (bytes .entry))) room) ⌝ }
+    ensures words { λ r. ⌜ now (words .exit) ≡ filledAfter (textTold r) (entriesOf (textPieces (now (s .entry)))) (now (words .entry)) ⌝ }
+    ensures bytes { λ r. ⌜ now (bytes .exit) ≡ filledAfter (textTold r) (bytesOf (entriesOf (textPieces (now (s .entry))))) (now (bytes .entry)) ⌝ }
+{
+    let t = pieces::string_at(s, 0, true);
+    match t {
+        Verdict::Refused(r) => Passed::Refused(r),
+        Verdict::Fine { start, len, next } => {
+            if entries::slots(words, bytes) == 0 {
+                return Passed::Refused(layouts::refuse(layouts::NO_ENTRY_ROOM, 0));
+            }
+            walk_rooms::put_entry(words, 0, start, len);
+            walk_rooms::put_entry_bytes(bytes, 0, start, len);
+            Passed::Past(next)
+        }
+    }
+}
+
+// What is said of it, where nothing decides its kind.
+fn text_said(t: Passed, code: u8, numbers: &mut [u64; 12], counts: &mut [u64; 3]) -> Said
+    requires { ⌜ code < firstCode ⌝ }
+    ensures { λ r. ⌜ ((v : Version) → answerOf r (now (numbers .exit)) (now (counts .exit)) ≡ answerAs (answeredAs v code (textTold t))) ⌝ }
+{
+    match t {
+        Passed::Refused(r) => walk_judge::refuse(r, numbers, counts),
+        Passed::Past(ends) => {
+            *numbers = [0u64; 12];
+            *counts = [0u64; 3];
+            Said::Fine {
+                kind: code as u64,
+                ends,
+                ends2: 0,
+                entries: 1,
+                payload: 0,
+                present: false,
+            }
+        }
+    }
+}
+
 // What a layout says that needs no fold, and whose kind nothing decides: with `kind_of` in it `read_brief` would stay out of line, and brief calls would take
 // four times as long. What is brief is asked first: so LLVM knows it by the operation.
 enum InBrief {
     Said(Said),
+    Text,
     Longer,
 }
 
@@ -95,6 +144,12 @@ fn read_brief(
         Brief::Number => {
             if code < table::kinds::FIRST_CODE {
                 return InBrief::Said(read_number(s, layout, code, numbers, counts));
+            }
+            InBrief::Longer
+        }
+        Brief::Text => {
+            if code < table::kinds::FIRST_CODE {
+                return InBrief::Text;
             }
             InBrief::Longer
         }
@@ -133,6 +188,10 @@ pub fn read_arguments(
             let b = read_brief(s, layout, kind, numbers, counts);
             match b {
                 InBrief::Said(said) => said,
+                InBrief::Text => {
+                    let t = take_text(s, words, bytes);
+                    text_said(t, kind, numbers, counts)
+                }
                 InBrief::Longer => {
                     walk_read::read(s, layout, kind, words, bytes, payload, numbers, counts)
                 }
@@ -170,6 +229,10 @@ pub fn read_reply(
             let b = read_brief(s, layout, kind, numbers, counts);
             match b {
                 InBrief::Said(said) => said,
+                InBrief::Text => {
+                    let t = take_text(s, words, bytes);
+                    text_said(t, kind, numbers, counts)
+                }
                 InBrief::Longer => {
                     walk_read::read(s, layout, kind, words, bytes, payload, numbers, counts)
                 }

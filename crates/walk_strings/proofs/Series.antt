@@ -5,14 +5,15 @@ use mathlib.Core.List.{List}
 use mathlib.Core.Bool.{Bool, true, false}
 use native.Mathlib.Omega.{arith}
 use lib.ListN.{length}
-use lib.Dec.{leb, ltb}
-use borrow.Author.Tests.{leb-true, ltb-true, ltb-false}
+use lib.Dec.{ltb, eqb}
+use borrow.Author.Tests.{eqb-true, ltb-true, ltb-false}
 use Rattle.layouts.specs.Primitive.{pick, numberAt, padOf}
 use Rattle.layouts.specs.declared.Refusal.{Refusal}
 use Rattle.layouts.specs.Refusal.{plain}
 use Rattle.layouts.specs.Shape.{Role, Tree, say, strings, units}
 use Rattle.layouts.specs.Pieces.{Pieces, Text, whole, cut, bad, textOf, afterText, run, skipOf}
 use Rattle.layouts.specs.Calls.{peekNumber}
+use Rattle.layouts.proofs.Views.{TextView, no-length, too-long, no-contents, no-padding, is-whole, text-view}
 use Rattle.numbers.specs.declared.Number.{Number}
 use Rattle.numbers.specs.declared.Number.the-variants.{Value}
 use Rattle.pieces.specs.declared.Text as T
@@ -25,7 +26,7 @@ use Rattle.walk_strings.specs.declared.More.{More}
 use Rattle.walk_strings.specs.declared.More.the-variants as M
 use Rattle.walk_strings.specs.declared.Passed.{Passed}
 use Rattle.walk_strings.specs.declared.Passed.the-variants.{Past, Refused}
-use Rattle.walk_strings.specs.Strings.{series, seriesAfter, afterNext, passedTo, Passes, PastFrom, Expected}
+use Rattle.walk_strings.specs.Strings.{series, seriesAfter, afterNext, passedTo, Passes, PastFrom, Strides, Expected}
 
 module _ (m : Role) (e : ℕ) (k : Unit {0} → Tree) where
   series-pend : (p l : ℕ) → 0 < p → series m p e l k ≡ say m (λ u. series m (p - 1) e l k)
@@ -55,22 +56,41 @@ module _ (m : Role) (e : ℕ) (k : Unit {0} → Tree) where
 
 -- ---- a string that is as long as expected
 module _ (s : List ℕ) (at n : ℕ) (r : Number) (e : numRead r ≡ peekNumber s at) (q : r ≡ Value n) where
-  expected-by : (x pad : ℕ) (b : Bool) → n ≡ x → n ≤ 268435456 → pad ≡ padOf x → leb (8 + x + pad) (length s - at) ≡ b → Expected s at x b
-  expected-by x pad true h l p z =
-      let k = number-known s at r e n q in
-      let f = leb-true (8 + x + pad) (length s - at) z in
-      rw (← p, ← h) (whole-string s at n r e q pad (p ∙ sym (ap padOf h)) l (omega arith) (omega arith))
-  expected-by x pad false h l p z = tt
+  module _ (x step : ℕ) (g : Strides x step) (long : 256 ≤ step) (fits : step ≤ length s - at) where
+    expected-by : (b : Bool) → eqb n x ≡ b → Expected s at x step b
+    expected-by true z =
+        let h = eqb-true n x z in
+        let d = g long in
+        let k = number-known s at r e n q in
+        let next : at + step ≡ at + 8 + n + padOf n = ap (λ (i : ℕ). at + i) (d .1) ∙ ap (λ (i : ℕ). at + (8 + i + padOf i)) (sym h) ∙ omega arith in
+        rw (next, ← h) (whole-string s at n r e q (padOf n) refl (omega arith) (omega arith) (omega arith))
+    expected-by false z = tt
 
-  pub expected : (x pad : ℕ) → n ≡ x → n ≤ 268435456 → pad ≡ padOf x → Expected s at x (leb (8 + x + pad) (length s - at))
-  expected x pad h l p = expected-by x pad _ h l p refl
+    pub expected : Expected s at x step (eqb n x)
+    expected = expected-by _ refl
 
-module _ (s : List ℕ) (at n : ℕ) (b : Bool) (e : Expected s at n b) (h : b ≡ true) where
-  pub expected-told : Whole (at + 8) n (at + 8 + n + padOf n) ≡ textFound (textOf (length s) (numberAt s at) at)
-  expected-told = subst (Expected s at n) h e
+module _ (s : List ℕ) (at n step : ℕ) (b : Bool) (e : Expected s at n step b) (h : b ≡ true) where
+  pub expected-told : Whole (at + 8) n (at + step) ≡ textFound (textOf (length s) (numberAt s at) at)
+  expected-told = subst (Expected s at n step) h e
 
-  pub expected-fits : at + 8 + n + padOf n ≤ length s
-  expected-fits = text-known (length s) (numberAt s at) at _ (text-told s at _ expected-told _ refl) .3
+  pub expected-fits : (at + 8 ≤ at + step) × (at + step ≤ length s)
+  expected-fits = let z = whole-found s at _ expected-told _ _ _ refl in (z .0, z .1)
+
+-- the step past a string that was found
+abbrev StrideOf : (at : ℕ) → Text → Type 0
+StrideOf at (whole start len next) = Strides len (next - at)
+StrideOf at (cut start len) = Unit {0}
+StrideOf at (bad which place) = Unit {0}
+
+stride-says : {size n at : ℕ} {m : Text} → TextView size n at m → StrideOf at m
+stride-says (no-length h) = tt
+stride-says (too-long h l) = tt
+stride-says (no-contents h l c) = tt
+stride-says (no-padding h l c) = tt
+stride-says {size} {n} {at} (is-whole h l) = λ long. (l, omega arith)
+
+pub stride-found : (s : List ℕ) (at : ℕ) (r : T.Text) → r ≡ textFound (textOf (length s) (numberAt s at) at) → (start len next : ℕ) → r ≡ Whole start len next → Strides len (next - at)
+stride-found s at r t start len next q = subst (StrideOf at) (sym (text-told s at r t _ q)) (stride-says (text-view (length s) (numberAt s at) at))
 
 -- ---- a string that is passed over
 abbrev pub textPassed : T.Text → Passed
@@ -123,5 +143,5 @@ module _ (s : List ℕ) (e from p₀ l₀ at p l : ℕ) (g : Passing s e from p�
         let o = g .on in
         record { on = omega (arith, z); same = there (Past next) (ap textPassed f) }
 
-  pub passing-expected : (p' l' : ℕ) → x ≡ M.String p' l' → (n : ℕ) (b : Bool) → Expected s at n b → b ≡ true → (next : ℕ) → next ≡ at + 8 + n + padOf n → Passing s e from p₀ l₀ next p' l'
-  passing-expected p' l' q n b f i next z = passing-on p' l' q (Whole (at + 8) n next) (ap (Whole (at + 8) n) z ∙ expected-told s at n b f i) (at + 8) n next refl
+  pub passing-expected : (p' l' : ℕ) → x ≡ M.String p' l' → (n step : ℕ) (b : Bool) → Expected s at n step b → b ≡ true → Passing s e from p₀ l₀ (at + step) p' l'
+  passing-expected p' l' q n step b f i = passing-on p' l' q (Whole (at + 8) n (at + step)) (expected-told s at n step b f i) (at + 8) n (at + step) refl

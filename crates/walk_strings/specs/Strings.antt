@@ -5,7 +5,7 @@ use mathlib.Core.List.{List}
 use mathlib.Core.Bool.{Bool, true, false}
 use lib.ListN.{length}
 use lib.Dec.{ltb}
-use Rattle.layouts.specs.Primitive.{pick, numberAt, padOf, Result}
+use Rattle.layouts.specs.Primitive.{pick, numberAt, limit, padOf, Result}
 use Rattle.layouts.specs.Refusal.{refusedBy}
 use Rattle.layouts.specs.Shape.{Role, Tree, say, strings, units}
 use Rattle.layouts.specs.Pieces.{textOf, run, skipOf}
@@ -40,7 +40,11 @@ abbrev pub PastFrom : (from : ℕ) → Passed → Type 0
 PastFrom from (P.Past at) = from ≤ at
 PastFrom from (P.Refused r) = Unit {0}
 
--- yes says that a whole string of n bytes stands at a place; no says nothing
-abbrev pub Expected : List ℕ → (at n : ℕ) → Bool → Type 0
-Expected s at n true = Whole (at + 8) n (at + 8 + n + padOf n) ≡ textFound (textOf (length s) (numberAt s at) at)
-Expected s at n false = Unit {0}
+-- a long step is that past a string of n bytes
+abbrev pub Strides : (n step : ℕ) → Type 0
+Strides n step = 256 ≤ step → (n ≤ limit) × (step ≡ 8 + n + padOf n)
+
+-- yes says that a whole string of n bytes stands at a place, and what follows it so many bytes on; no says nothing
+abbrev pub Expected : List ℕ → (at n step : ℕ) → Bool → Type 0
+Expected s at n step true = Whole (at + 8) n (at + step) ≡ textFound (textOf (length s) (numberAt s at) at)
+Expected s at n step false = Unit {0}

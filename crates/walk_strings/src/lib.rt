@@ -3,12 +3,12 @@ ghost use mathlib.Core.Path.{_≡_};
 ghost use Prim.Native.Nat.{_≤_};
 ghost use lib.ListN.{length};
 ghost use Rattle.layouts.specs.Shape.{Role};
-ghost use Rattle.walk_strings.specs.Strings.{series, afterNext, Passes, PastFrom, Expected};
+ghost use Rattle.walk_strings.specs.Strings.{series, afterNext, Passes, PastFrom, Strides, Expected};
 use layouts::Refusal;
 use numbers::Number;
 use pieces::Text;
 
-// From here on a length is seldom in the first-level cache when its turn comes.
+// From so many bytes a string on, a length is seldom in the first-level cache when its turn comes.
 const LONG: usize = 256;
 
 // Where the series ends, or its first refusal.
@@ -41,24 +41,24 @@ pub fn after_next(pend: u64, extra: u64, left: u64) -> More
     More::None
 }
 
-// A long string, as long as the last one: then the place after it waits for no load. Short ones differ in length, and a wrong guess costs more than a load.
-fn is_expected(s: &[u8], at: usize, expected: usize) -> bool
-    ensures { λ r. ⌜ Expected (now (s .entry)) at expected r ⌝ }
+// A long string, as long as the last one, which took so many bytes with its length and padding: then the place after it waits for no load. Short ones differ in
+// length, and a wrong guess costs more than a load.
+fn is_expected(s: &[u8], at: usize, expected: usize, step: usize) -> bool
+    requires { ⌜ Strides expected step ⌝ }
+    ensures { λ r. ⌜ Expected (now (s .entry)) at expected step r ⌝ }
 {
-    if expected < LONG {
+    if step < LONG {
+        return false;
+    }
+    if s.len() < at {
+        return false;
+    }
+    if s.len() - at < step {
         return false;
     }
     match pieces::number_at(s, at) {
         Number::Short => false,
-        Number::Value(n) => {
-            if n != expected as u64 {
-                return false;
-            }
-            if pieces::MAX_WIRE_STRING_LEN < n {
-                return false;
-            }
-            8 + expected + pieces::padding(expected) <= s.len() - at
-        }
+        Number::Value(n) => n == expected as u64,
     }
 }
 
@@ -71,6 +71,7 @@ pub fn pass(s: &[u8], from: usize, pend: u64, extra: u64, left: u64) -> Passed
     let mut p = pend;
     let mut l = left;
     let mut expected: usize = 0;
+    let mut step: usize = 0;
     loop {
         let m = after_next(p, extra, l);
         match m {
@@ -78,8 +79,8 @@ pub fn pass(s: &[u8], from: usize, pend: u64, extra: u64, left: u64) -> Passed
                 return Passed::Past(at);
             }
             More::String { pend, left } => {
-                if is_expected(s, at, expected) {
-                    at = at + 8 + expected + pieces::padding(expected);
+                if is_expected(s, at, expected, step) {
+                    at += step;
                     p = pend;
                     l = left;
                 } else {
@@ -99,6 +100,7 @@ pub fn pass(s: &[u8], from: usize, pend: u64, extra: u64, left: u64) -> Passed
                             len,
                             next,
                         } => {
+                            step = next - at;
                             at = next;
                             p = pend;
                             l = left;

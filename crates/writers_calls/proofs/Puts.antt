@@ -2,12 +2,12 @@
 use Prim.Native.Nat.{ℕ, zero, suc, _+_, _-_, _≤_, _<_}
 use mathlib.Core.Path.{_≡_, refl, sym, _∙_, ap, subst}
 use mathlib.Core.List.{List, [], _∷_, _++_}
-use mathlib.Core.Bool.{Bool, true, false}
+use mathlib.Core.Bool.{Bool, true, false, _&&_, false≢true}
 use lib.ListN.{length, take, drop, length-append, length-drop}
 use mathlib.Core.List.{append-nil, append-assoc}
 use lib.Dec.{leb, eqb}
 use native.Mathlib.Omega.{arith}
-use borrow.Author.Tests.{leb-true, le-leb, ne-eqb}
+use borrow.Author.Tests.{leb-true, le-leb, eqb-true, ne-eqb}
 use Rattle.layouts.specs.Primitive.{pick, numberBytes, Result, ok, refused, onward, noSuchEntry}
 use Rattle.layouts.specs.Shape.{What}
 use Rattle.layouts.specs.Writers.{slotsOf, stringsBytes, framedBytes, writing}
@@ -206,6 +206,25 @@ module _ (at : ℕ) (o : List ℕ) (xs : List ℕ) (cs : List (List ℕ)) (zs : 
         let t : o₃ ≡ placed a (stringsBytes cs ++ zs) o₁ = then o₁ o₂ o₃ a c (stringsBytes cs) zs (omega arith) n out-is e₃ in
         let m = length-append (stringsBytes cs) zs in
         (omega arith, then o o₁ o₃ at a xs (stringsBytes cs ++ zs) (omega arith) ea e₁ t)
+
+-- a number and no more
+both-true : (x y : Bool) → x && y ≡ true → (x ≡ true) × (y ≡ true)
+both-true true y e = (refl, e)
+both-true false y e = absurd (false≢true e)
+
+module _ (k n at : ℕ) (b es p o : List ℕ) (i j : ℕ) (t : eqb k 1 && eqb i j ≡ true) where
+  only-number : itemBytes k n b es i j p ≡ numberBytes n
+  unfolding partsFrom stringsBytes
+  only-number =
+      let k-is = eqb-true k 1 (both-true (eqb k 1) (eqb i j) t .0) in
+      let z : j - i ≡ 0 = let e = eqb-true i j (both-true (eqb k 1) (eqb i j) t .1) in omega arith in
+      rw (k-is, z) (append-nil (numberBytes n))
+
+  pub item-fits : at + length (itemBytes k n b es i j p) ≤ length o → at + 8 ≤ length o
+  item-fits h = let m = length-number n in let g = rw only-number at h in omega arith
+
+  pub item-number : (o' : List ℕ) → o' ≡ placed at (numberBytes n) o → (at + 8 ≡ at + length (itemBytes k n b es i j p)) × (o' ≡ placed at (itemBytes k n b es i j p) o)
+  item-number o' g = let m = length-number n in rw only-number (omega arith, g)
 
 module _ (k n at : ℕ) (b es p o : List ℕ) (i j : ℕ) (h : at + length (itemBytes k n b es i j p) ≤ length o) where
   pub item-first : at + length (numberBy k n) ≤ length o

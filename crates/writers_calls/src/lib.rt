@@ -55,6 +55,7 @@ fn put_frames(out: &mut [u8], at: usize, kind: u8, payload: &[u8]) -> usize
     at
 }
 
+// Most fields are a number and no more.
 fn put_item(
     out: &mut [u8],
     at: usize,
@@ -71,6 +72,10 @@ fn put_item(
     ensures next { λ r. ⌜ r ≡ at + length (itemBytes kind n (now (s .entry)) (numbersIn (now (words .entry)) (now (bytes .entry))) i next (now (payload .entry))) ⌝ }
     ensures out { λ r. ⌜ now (out .exit) ≡ placed at (itemBytes kind n (now (s .entry)) (numbersIn (now (words .entry)) (now (bytes .entry))) i next (now (payload .entry))) (now (out .entry)) ⌝ }
 {
+    if (kind == table::NUM) & (i == next) {
+        writers_output::put_number(out, at, n);
+        return at + 8;
+    }
     let strings = put_number(out, at, kind, n);
     let frames = writers_sets::put_strings(out, strings, s, words, bytes, i, next);
     put_frames(out, frames, kind, payload)
@@ -80,6 +85,9 @@ fn put_item(
 fn used_after(kind: u8, n: u64, slots: usize, used: usize) -> usize
     ensures { λ r. ⌜ r ≡ usedOr used (stringsAfter kind n slots used) ⌝ }
 {
+    if kind == table::NUM {
+        return used;
+    }
     match writers_fields::strings_after(kind, n, slots, used) {
         Written::Length(next) => next,
         Written::Refused(_) => used,

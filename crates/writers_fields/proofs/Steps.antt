@@ -9,7 +9,7 @@ use lib.Dec.{ltb, leb, eqb}
 use native.Mathlib.Omega.{arith}
 use native.Mathlib.Decide.{ℕ-discrete, decLt}
 use borrow.Author.Tests.{eq-eqb, ne-eqb, lt-ltb, le-ltb, le-leb, lt-leb}
-use Rattle.layouts.specs.Primitive.{pick, Result, ok, refused, noSuchEntry}
+use Rattle.layouts.specs.Primitive.{pick, Result, ok, refused, onward, noSuchEntry}
 use Rattle.layouts.specs.Shape.{Target, dropped, asNumber, asFlag, asCount, asPresence}
 use Rattle.layouts.specs.CallWriter.{valueFor, leave}
 use Rattle.table.specs.Table.{targetOf}
@@ -135,6 +135,17 @@ module _ (k n slots used left : ℕ) (e : left ≡ slots - used) where
   other-some a b c = some 0 (rw (ne-eqb k 2 a, ne-eqb k 3 b, ne-eqb k 4 c)) (omega arith) used (omega arith)
 
 -- ---- bytes
+-- a number has no strings
+pub number-only : (k n slots used : ℕ) → k ≡ 1 → stringsAfter k n slots used ≡ ok used
+number-only k n slots used e = rw e (go (leb 0 (slots - used)) (le-leb 0 (slots - used) (omega arith)))
+  where
+    go : (b : Bool) → b ≡ true → pick b (ok (used + 0)) (refused noSuchEntry n 0) ≡ ok used
+    go b q = rw q (ap ok (omega arith))
+
+pub number-stays : (k n slots : ℕ) → k ≡ 1 → (o : Result ℕ) → o ≡ onward o (λ used. stringsAfter k n slots used)
+number-stays k n slots e (ok used) = sym (number-only k n slots used e)
+number-stays k n slots e (refused which place stream) = refl
+
 pub bytes-none : (f k : ℕ) → hasNumber k ≡ false → (k ≡ 5 → ⊥) → 0 ≡ bytesBy f k
 bytes-none f k e h = go (hasNumber k) e
   where

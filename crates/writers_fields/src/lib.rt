@@ -146,10 +146,13 @@ pub fn strings_after(kind: u8, n: u64, slots: usize, used: usize) -> Written
     Written::Length(used)
 }
 
-// A refusal stays.
+// A refusal stays. A number, which most fields are, has no strings and is told first, here and below.
 fn strings_on(strings: Written, kind: u8, n: u64, slots: usize) -> Written
     ensures { λ r. ⌜ meaning r ≡ onward (meaning strings) (λ used. stringsAfter kind n slots used) ⌝ }
 {
+    if kind == table::NUM {
+        return strings;
+    }
     match strings {
         Written::Length(used) => strings_after(kind, n, slots, used),
         Written::Refused(_) => strings,
@@ -159,6 +162,9 @@ fn strings_on(strings: Written, kind: u8, n: u64, slots: usize) -> Written
 fn bytes_by(framed: usize, kind: u8) -> usize
     ensures { λ r. ⌜ r ≡ bytesBy framed kind ⌝ }
 {
+    if kind == table::NUM {
+        return 8;
+    }
     if has_number(kind) {
         return 8;
     }

@@ -5,7 +5,7 @@ use Rattle.handshake.proofs.parse_daemon_handshake_bytes.Tie as tie
 use denote.Ref.{now}
 use mathlib.Core.Path.{refl}
 use mathlib.Core.List.{[]}
-use Rattle.handshake.proofs.Filled.{daemon-bytes}
+use Rattle.handshake.proofs.Filled.{alone-bytes}
 
 pub parse-daemon-handshake-bytes-spec : {M : Type 1} → statement M
 parse-daemon-handshake-bytes-spec =
@@ -14,4 +14,4 @@ parse-daemon-handshake-bytes-spec =
     (λ c. search needs)
     (λ c κs. search needs)
     (λ c. search needs)
-    (λ c. let (at-start, at-read) : tie.Start × tie.After-read = search in daemon-bytes _ _ _ [] _ (now (at-start .args .entries)) _ (at-read .read .ensures) refl))
+    (λ c. let (at-start, at-read) : tie.Start × tie.After-read-alone = search in alone-bytes _ [] _ (now (at-start .args .entries)) _ _ _ (at-read .read-alone .ensures) refl))

@@ -3,9 +3,9 @@ use borrow.Author.Needs.{needs}
 use Rattle.handshake.proofs.parse_handshake.Statement.{statement}
 use Rattle.handshake.proofs.parse_handshake.Tie as tie
 use denote.Ref.{now}
-use mathlib.Core.Path.{refl}
+use mathlib.Core.Path.{refl, _∙_}
 use mathlib.Core.List.{[]}
-use Rattle.handshake.proofs.Filled.{handshake-words}
+use Rattle.handshake.proofs.Filled.{both-words}
 
 pub parse-handshake-spec : {M : Type 1} → statement M
 parse-handshake-spec =
@@ -13,5 +13,8 @@ parse-handshake-spec =
     (tie.spec
     (λ c. search needs)
     (λ c κs. search needs)
+    (λ c κs. search needs)
     (λ c. search needs)
-    (λ c. let (at-start, at-read) : tie.Start × tie.After-read = search in handshake-words _ _ _ (now (at-start .args .entries)) _ [] _ (at-read .read .ensures) refl))
+    (λ c.
+    let (at-start, at-read) : tie.Start × tie.After-read = search in
+    both-words _ (now (at-start .args .entries)) _ [] _ _ _ (c .answer-of .ensures ∙ at-read .read .ensures .0, at-read .read .ensures .1) refl))

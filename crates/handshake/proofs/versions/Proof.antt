@@ -2,7 +2,7 @@
 use borrow.Author.Needs.{needs}
 use Rattle.handshake.proofs.versions.Statement.{statement}
 use Rattle.handshake.proofs.versions.Tie as tie
-use Rattle.handshake.proofs.Ways.{all-versions}
+use Rattle.handshake.proofs.Order.{all-versions}
 
 pub versions-spec : {M : Type 1} → statement M
 versions-spec =

@@ -1,34 +1,18 @@
--- `text::text_end` meets its contract: what is before i is text (`Upto`). The measure is what is left of the length.
-use Prim.Native.Nat.{_-_}
-use native.Mathlib.Omega.{arith}
-use borrow.Author.Needs.{needs}
+-- `text::text_end` meets its contract: what is text is good to its end.
+use Prim.Native.Nat.{ℕ}
+use mathlib.Core.Path.{_≡_, sym}
+use mathlib.Core.Bool.{Bool, true}
+use mathlib.Core.List.{List}
 use lib.ListN.{length}
-use Rattle.text.proofs.Steps.{Upto, start, past, stopped, ended}
+use borrow.Author.Needs.{needs}
+use Rattle.text.specs.Rfc3629.{Text}
+use Rattle.text.specs.Prefix.{goodPrefix}
+use Rattle.text.proofs.Meaning.{text-whole}
 use Rattle.text.proofs.text_end.Statement.{statement}
 use Rattle.text.proofs.text_end.Tie as tie
 
-abbrev Inv-loop : tie.InvT-loop
-Inv-loop s i₀ i = Upto s i
-
-abbrev μ-loop : tie.MeasureT-loop
-μ-loop s i₀ i = length s - i
-
-loop-again : tie.Need-loop-again Inv-loop μ-loop
-loop-again c = search past
+whole : (s : List ℕ) (t : Bool) → (t ≡ true → Text s) → t ≡ true → length s ≡ goodPrefix s
+whole s t h e = sym (text-whole s (h e))
 
 pub text-end-spec : {M : Type 1} → statement M
-text-end-spec =
-    tie.close
-    (tie.spec
-    Inv-loop
-    μ-loop
-    (λ c. start _)
-    (λ c. search needs)
-    (λ c. search needs)
-    (λ c. search needs)
-    (λ c κs. search needs)
-    (λ c. search stopped)
-    (λ c. let u : Upto _ _ = loop-again c in omega arith)
-    (λ c. let u : Upto _ _ = loop-again c in omega arith)
-    loop-again
-    (λ c. search ended))
+text-end-spec = tie.close (tie.spec (λ c κs. search needs) (λ c. search whole) (λ c κs. search needs) (λ c. search needs))

@@ -2,7 +2,7 @@
 use borrow.Author.Needs.{needs}
 use Rattle.walk_items.proofs.in_brief.Statement.{statement}
 use Rattle.walk_items.proofs.in_brief.Tie as tie
-use Rattle.walk_items.proofs.Trees.{brief-nothing, brief-empty, brief-number, brief-longer}
+use Rattle.walk_items.proofs.Trees.{brief-nothing, brief-empty, brief-number, brief-text, brief-longer}
 
 pub in-brief-spec : {M : Type 1} → statement M
 in-brief-spec =
@@ -15,4 +15,10 @@ in-brief-spec =
     (λ c. let at-first : tie.After-first = search in brief-empty _ _ (at-first .first .ensures) (c .before .if1 .left) (c .if2 .taken))
     (λ c. search needs)
     (λ c. let (at-first, at-else1) : tie.After-first × tie.Else1 = search in brief-number _ _ (at-first .first .ensures) (at-else1 .if1 .left) (c .before .if2 .left) (c .if3 .taken))
-    (λ c. let (at-first, at-else1) : tie.After-first × tie.Else1 = search in brief-longer _ _ (at-first .first .ensures) (at-else1 .if1 .left) (c .before .if2 .left) (c .if3 .left)))
+    (λ c. search needs)
+    (λ c.
+    let (at-first, at-else1, at-else2) : tie.After-first × tie.Else1 × tie.Else2 = search in
+    brief-text _ _ (at-first .first .ensures) (at-else1 .if1 .left) (at-else2 .if2 .left) (c .before .if3 .left) (c .if4 .taken))
+    (λ c.
+    let (at-first, at-else1, at-else2) : tie.After-first × tie.Else1 × tie.Else2 = search in
+    brief-longer _ _ (at-first .first .ensures) (at-else1 .if1 .left) (at-else2 .if2 .left) (c .before .if3 .left) (c .if4 .left)))

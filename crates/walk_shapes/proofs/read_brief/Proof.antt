@@ -21,6 +21,11 @@ read-brief-spec =
     let (at-start, at-in-brief, at-enum-told2) : tie.Start × tie.After-in-brief × tie.After-enum-told2 = search in
     (c .read-number .ensures, number-there _ (at-start .args .code) (brief-is _ _ _ (at-in-brief .in-brief .ensures .1) (at-enum-told2 .enum-told2 .given .1)) _))
     (λ c. search needs)
+    (λ c.
+    let (at-in-brief, at-enum-told3) : tie.After-in-brief × tie.After-enum-told3 = search in
+    (brief-is _ _ _ (at-in-brief .in-brief .ensures .1) (at-enum-told3 .enum-told3 .given .1), search needs))
+    (λ c. search needs)
+    (λ c. search needs)
     (λ c. search needs)
     (λ c. search needs)
     (λ c. search needs))

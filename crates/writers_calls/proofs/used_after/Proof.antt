@@ -7,12 +7,14 @@ use Prim.Native.Nat.{ℕ}
 use Rattle.layouts.specs.Primitive.{Result}
 use Rattle.writers_output.specs.Answer.{meaning}
 use Rattle.writers_output.specs.declared.Written.{Written}
+use Rattle.writers_fields.proofs.Steps.{number-only}
 use Rattle.writers_calls.specs.Calls.{usedOr}
 
 pub used-after-spec : {M : Type 1} → statement M
 used-after-spec =
     tie.close
     (tie.spec
+    (λ c. let at-start : tie.Start = search in ap (usedOr (at-start .args .used)) (sym (number-only _ _ _ _ (c .if1 .taken))))
     (λ c κs. search needs)
     (λ c. search needs)
     (λ c. search needs)

@@ -9,7 +9,8 @@ pub bytes-by-spec : {M : Type 1} → statement M
 bytes-by-spec =
     tie.close
     (tie.spec
+    (λ c. rw (c .if1 .taken))
     (λ c κs. search needs)
-    (λ c. simp (sym (c .before .has-number .ensures) ∙ c .if1 .taken))
-    (λ c. rw (c .if2 .taken))
-    (λ c. let at-has-number : tie.After-has-number = search in bytes-none _ _ (sym (at-has-number .has-number .ensures) ∙ c .before .if1 .left) (c .if2 .left)))
+    (λ c. simp (sym (c .before .has-number .ensures) ∙ c .if2 .taken))
+    (λ c. rw (c .if3 .taken))
+    (λ c. let at-has-number : tie.After-has-number = search in bytes-none _ _ (sym (at-has-number .has-number .ensures) ∙ c .before .if2 .left) (c .if3 .left)))

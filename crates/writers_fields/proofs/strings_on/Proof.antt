@@ -8,11 +8,13 @@ use Rattle.layouts.specs.Primitive.{Result, onward}
 use Rattle.writers_output.specs.Answer.{meaning}
 use Rattle.writers_output.specs.declared.Written.{Written}
 use Rattle.writers_fields.specs.Fields.{stringsAfter}
+use Rattle.writers_fields.proofs.Steps.{number-stays}
 
 pub strings-on-spec : {M : Type 1} → statement M
 strings-on-spec =
     tie.close
     (tie.spec
+    (λ c. number-stays _ _ _ (c .if1 .taken) _)
     (λ c. search needs)
     (λ c κs. search needs)
     (λ c. search needs)
