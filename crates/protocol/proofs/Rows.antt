@@ -99,7 +99,8 @@ module _ (s : List ℕ) (t : Verdict) (e : judgedRead t ≡ stringAt s true 0) (
 
   pub text-fine : (start len next k : ℕ) → t ≡ W.Fine start len next → k ≡ kindNumbered v false c
       → record { outcome = Fine; kind = k; ends = next; count = 0; start = start; len = len } ≡ textSkipped
-  text-fine start len next k q g = rw g (ap (argumentsAs (answeredAs v c (withSlots s false (judgedRead (W.Fine start len next))))) (sym (entries-are s t e start len next q)) ∙ text-as (W.Fine start len next) q)
+  text-fine start len next k q g =
+      rw g (ap (argumentsAs (answeredAs v c (withSlots s false (judgedRead (W.Fine start len next))))) (sym (entries-are s t e start len next q)) ∙ text-as (W.Fine start len next) q)
 
 pub arguments-unknown : (o : Result Answer) (es : List ℕ) (a : Arguments) (r : Refusal) → o ≡ refused 9 0 0 → r ≡ plain 9 0 → a ≡ argumentsAs (refusedBy r) [] → a ≡ argumentsAs o es
 arguments-unknown o es a r e p q = q ∙ ap (λ (x : Refusal). argumentsAs (refusedBy x) []) p ∙ ap (λ (x : Result Answer). argumentsAs x es) (sym e)

@@ -131,7 +131,7 @@ plain-on : (n : ℕ) (s : List ℕ) → PlainFor n s → runStates 0 s ≡ runSt
 plain-on n s x = rw take-append-drop at (plain-run (take n s) (drop n s) (x .ascii))
 
 pub begun-plain : (n : ℕ) (s : List ℕ) → PlainFor n s → Ran 0 s n 0
-begun-plain n s x = record { inside = x .there; small = omega arith; same = plain-on n s x }
+begun-plain n s x = record { inside = x .there; same = plain-on n s x }
 
 pub judged : (s : List ℕ) (i state : ℕ) → Ran 0 s i state → length s ≤ i → eqb state 0 ≡ true → Text s
 judged s i state r h t = run-text s (sym (done 0 s i state r h) ∙ eqb-true state 0 t)
@@ -148,6 +148,5 @@ past-plain n s i state p r h t =
     let x : PlainFor n (drop i s) = rw (part s i) at (h (b .1)) in
     record {
       inside = omega (arith, x .there, length-drop i s);
-      small = r .small;
       same = rw (z, ← drop-drop) (rw z at (r .same) ∙ plain-on n (drop i s) x);
     }

@@ -1,5 +1,5 @@
 -- Which octets each state lets through, and to which state: the ranges of RFC 3629. `text` proves from them that the machine takes only text.
-use Prim.Native.Nat.{ℕ, suc, _/_, _%_, _^_, _≤_, _<_}
+use Prim.Native.Nat.{ℕ, suc, _≤_, _<_}
 use mathlib.Core.Path.{_≡_, refl}
 use mathlib.Core.Bool.{Bool, true, false, _&&_, cond}
 use mathlib.Core.List.{List, [], _∷_}
@@ -7,7 +7,7 @@ use native.Mathlib.Omega.{arith}
 use native.Mathlib.Decide.{decLe}
 use lib.Dec.{T, leb, leb→le, eqb, eqb→eq}
 use borrow.Author.Tests.{le-leb, lt-leb, eqb-true}
-use Rattle.text_states.specs.States.{beginning, rows, rowIn, rowOf, nextState, runStates}
+use Rattle.text_states.specs.States.{beginning, rows, rowIn, rowOf, inRow, nextState, runStates}
 
 by-row : (P : ℕ → Type 0) (b top : ℕ) {x y : ℕ} → (b ≤ top → P x) → (top < b → P y) → P (cond (leb b top) x y)
 by-row P b top {x} {y} f g = go (decLe b top)
@@ -47,7 +47,7 @@ first b =
     by-row P b 0xF4 (λ h. F4 (omega arith) refl) (λ l. wrong refl)))))))))))))
   where
     P : ℕ → Type 0
-    P row = First b (row / 2 ^ 0 % 64)
+    P row = First b (inRow row 0)
 
 -- ---- within one
 pub data Next (low high next b x : ℕ) : Type 0 where
@@ -60,8 +60,8 @@ fit low high next low′ high′ x = cond (eqb x 48) true (leb low low′ && leb
 
 -- and of every row, where the first is that of the octets from `low′` on
 abbrev fits : (state low high next low′ : ℕ) → List (ℕ × ℕ) → Bool
-fits state low high next low′ [] = eqb (beginning 48 / 2 ^ state % 64) 48
-fits state low high next low′ ((top, row) ∷ l) = fit low high next low′ top (row / 2 ^ state % 64) && fits state low high next (suc top) l
+fits state low high next low′ [] = eqb (inRow (beginning 48) state) 48
+fits state low high next low′ ((top, row) ∷ l) = fit low high next low′ top (inRow row state) && fits state low high next (suc top) l
 
 T-and : (x y : Bool) → T (x && y) → T x × T y
 T-and true y t = (tt, t)
@@ -75,12 +75,12 @@ module _ (low high next b : ℕ) where
       let q = T-and (leb low low′) (leb high′ high) (p .0) in
       right (omega (arith, leb→le low low′ (q .0))) (omega (arith, leb→le high′ high (q .1))) (eqb→eq x next (p .1))
 
-  fits-next : (state low′ : ℕ) (l : List (ℕ × ℕ)) → T (fits state low high next low′ l) → low′ ≤ b → Next low high next b (rowIn l b / 2 ^ state % 64)
-  fits-next state low′ [] t h = wrong (eqb→eq (beginning 48 / 2 ^ state % 64) 48 t)
+  fits-next : (state low′ : ℕ) (l : List (ℕ × ℕ)) → T (fits state low high next low′ l) → low′ ≤ b → Next low high next b (inRow (rowIn l b) state)
+  fits-next state low′ [] t h = wrong (eqb→eq (inRow (beginning 48) state) 48 t)
   fits-next state low′ ((top, row) ∷ l) t h =
-      let x = row / 2 ^ state % 64 in
+      let x = inRow row state in
       let p = T-and (fit low high next low′ top x) (fits state low high next (suc top) l) t in
-      by-row (λ (r : ℕ). Next low high next b (r / 2 ^ state % 64)) b top (λ g. fit-next low′ top x (eqb x 48) refl (p .0) h g) (λ g. fits-next state (suc top) l (p .1) (omega arith))
+      by-row (λ (r : ℕ). Next low high next b (inRow r state)) b top (λ g. fit-next low′ top x (eqb x 48) refl (p .0) h g) (λ g. fits-next state (suc top) l (p .1) (omega arith))
 
 from : (state low high next b : ℕ) → T (fits state low high next 0 rows) → Next low high next b (nextState state b)
 unfolding rowOf

@@ -1,5 +1,5 @@
 -- The row of a byte, as the arms of a match give it, and what it has for a state.
-use Prim.Native.Nat.{ℕ, zero, suc, _/_, _%_, _^_, _≤_}
+use Prim.Native.Nat.{ℕ, zero, suc, _/_, _%_, _^_, _≤_, _<_}
 use mathlib.Core.Path.{_≡_, sym, ap, _∙_}
 use native.Mathlib.Omega.{arith}
 use lib.Bits.{bitAnd, and-mask}
@@ -37,5 +37,8 @@ past {b} h =
       lt-leb b 0xF4 (omega arith),
     )
 
-pub masked : (row state b : ℕ) → row ≡ rowOf b → bitAnd (row / 2 ^ state) 63 ≡ nextState state b
-masked row state b e = and-mask (row / 2 ^ state) 6 ∙ ap (λ (r : ℕ). r / 2 ^ state % 64) e
+pub shift : (state : ℕ) → bitAnd state 63 < 64
+shift state = rw (and-mask state 6) (omega arith)
+
+pub masked : (row state b : ℕ) → row ≡ rowOf b → bitAnd (row / 2 ^ bitAnd state 63) 63 ≡ nextState state b
+masked row state b e = rw (and-mask state 6, e) (and-mask (rowOf b / 2 ^ (state % 64)) 6)

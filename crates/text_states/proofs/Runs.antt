@@ -11,11 +11,10 @@ use Rattle.text_states.specs.States.{nextState, runStates}
 -- from `state` at i, as from `from` at the start of s
 pub record Ran (from : ℕ) (s : List ℕ) (i state : ℕ) : Type 0 where
   pub inside : i ≤ length s
-  pub small : state < 64
   pub same : runStates from s ≡ runStates state (drop i s)
 
-pub begun : (from : ℕ) (s : List ℕ) → from < 64 → Ran from s 0 from
-begun from s h = record { inside = omega arith; small = h; same = refl }
+pub begun : (from : ℕ) (s : List ℕ) → Ran from s 0 from
+begun from s = record { inside = omega arith; same = refl }
 
 pub run-cons : (state b : ℕ) (s : List ℕ) → runStates state (b ∷ s) ≡ runStates (nextState state b) s
 unfolding runStates
@@ -24,7 +23,6 @@ run-cons state b s = refl
 pub further : (from : ℕ) (s : List ℕ) (i state next : ℕ) → Ran from s i state → i < length s → next ≡ nextState state (getD s i 0) → Ran from s (i + 1) next
 further from s i state next r h e = record {
   inside = omega arith;
-  small = rw e (omega arith);
   same = rw (add-one i, e) (r .same ∙ ap (runStates state) (drop-cons s i 0 h) ∙ run-cons state (getD s i 0) (drop (suc i) s));
 }
 
@@ -33,16 +31,11 @@ unfolding runStates
 run-append state [] s = refl
 run-append state (b ∷ p) s = run-append (nextState state b) p s
 
-run-small : (state : ℕ) (s : List ℕ) → state < 64 → runStates state s < 64
-unfolding runStates
-run-small state [] h = h
-run-small state (b ∷ s) h = run-small (nextState state b) s (omega arith)
-
 -- past a part of the list
-pub past-part : (from : ℕ) (s : List ℕ) (i end state next : ℕ) → Ran from s i state → (i < end) × (end ≤ length s) → next ≡ runStates state (take (end - i) (drop i s)) → Ran from s end next
+pub past-part : (from : ℕ) (s : List ℕ) (i end state next : ℕ) → Ran from s i state → (i < end) × (end ≤ length s)
+    → next ≡ runStates state (take (end - i) (drop i s)) → Ran from s end next
 past-part from s i end state next r h e = record {
   inside = h .1;
-  small = rw e (run-small state _ (r .small));
   same = rw (e, ← run-append) (r .same ∙ ap (runStates state) (sym halves));
 }
   where

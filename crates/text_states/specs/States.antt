@@ -43,8 +43,12 @@ rowIn ((top, row) ∷ l) b = cond (leb b top) row (rowIn l b)
 unfoldable pub rowOf : ℕ → ℕ
 rowOf b = rowIn rows b
 
+-- what a row has for a state: the six bits from there on
+abbrev pub inRow : (row state : ℕ) → ℕ
+inRow row state = row / 2 ^ (state % 64) % 64
+
 abbrev pub nextState : (state b : ℕ) → ℕ
-nextState state b = rowOf b / 2 ^ state % 64
+nextState state b = inRow (rowOf b) state
 
 unfoldable pub runStates : (state : ℕ) → List ℕ → ℕ
 runStates state [] = state

@@ -1,5 +1,4 @@
 // The machine of `specs/States.antt` over bytes: no branch depends on what they are.
-ghost use Prim.Native.Nat.{_<_};
 ghost use mathlib.Core.Path.{_≡_};
 ghost use Rattle.text_states.specs.States.{rowOf, nextState, runStates};
 
@@ -292,16 +291,15 @@ fn row(b: u8) -> u64
     }
 }
 
+// The state is masked so that no caller has to promise a small one; the processor shifts by six bits of it anyway.
 fn next_state(state: u64, b: u8) -> u64
-    requires { ⌜ state < 64 ⌝ }
     ensures { λ r. ⌜ r ≡ nextState state b ⌝ }
 {
-    (row(b) >> state) & 63
+    (row(b) >> (state & 63)) & 63
 }
 
 // The state after all of s. `next_state` is called at one place only, so that it goes into the loop.
 pub fn run_states(state: u64, s: &[u8]) -> u64
-    requires { ⌜ state < 64 ⌝ }
     ensures { λ r. ⌜ r ≡ runStates state (now (s .entry)) ⌝ }
 {
     let mut state = state;

@@ -67,5 +67,5 @@ greet-spec =
     let (at-start, at-smaller, at-judge-features, at-f2, at-judge-features2, at-g2) = from-pass-obsolete at-pass-obsolete in
     both-told _ _ _ _ _ _ (at-smaller .smaller .ensures .0) _ _ (at-judge-features .judge-features .result) (at-judge-features .judge-features .ensures) (at-tell .tell .result) _ _ _ _ _
     (at-f2 .f2 .given .1) _ (at-judge-features2 .judge-features2 .result) (at-judge-features2 .judge-features2 .ensures) _ _ _ (at-g2 .g2 .given .1) (at-pass-obsolete .pass-obsolete .result)
-    (at-pass-obsolete .pass-obsolete .ensures) _ (at-o2 .o2 .given .1) _ (at-judge-info .judge-info .result) (at-judge-info .judge-info .ensures _ _ _ _ _ (at-judge-version .judge-version .ensures)) (at-tell .tell .ensures) _ _ _
-    (at-layout .layout .ensures) (at-layout2 .layout2 .ensures) (c .layout3 .ensures)))
+    (at-pass-obsolete .pass-obsolete .ensures) _ (at-o2 .o2 .given .1) _ (at-judge-info .judge-info .result) (at-judge-info .judge-info .ensures _ _ _ _ _ (at-judge-version .judge-version .ensures))
+    (at-tell .tell .ensures) _ _ _ (at-layout .layout .ensures) (at-layout2 .layout2 .ensures) (c .layout3 .ensures)))

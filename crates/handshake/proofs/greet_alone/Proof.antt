@@ -27,5 +27,5 @@ greet-alone-spec =
     let (at-smaller, at-judge-features, at-g2, at-judge-version, at-judge-info, at-tell, at-layout, at-layout2) :
     tie.After-smaller × tie.After-judge-features × tie.After-g2 × tie.After-judge-version × tie.After-judge-info × tie.After-tell × tie.After-layout × tie.After-layout2 = search in
     alone-told _ _ _ _ _ (at-smaller .smaller .ensures .0) _ _ (at-judge-features .judge-features .result) (at-judge-features .judge-features .ensures) (at-tell .tell .result) _ _ _ _ _
-    (at-g2 .g2 .given .1) _ (at-judge-info .judge-info .result) (at-judge-info .judge-info .ensures _ _ _ _ _ (at-judge-version .judge-version .ensures)) (at-tell .tell .ensures) _ _ _ (at-layout .layout .ensures) (at-layout2 .layout2 .ensures)
-    (c .layout3 .ensures) q m2 w2 fd))
+    (at-g2 .g2 .given .1) _ (at-judge-info .judge-info .result) (at-judge-info .judge-info .ensures _ _ _ _ _ (at-judge-version .judge-version .ensures))
+    (at-tell .tell .ensures) _ _ _ (at-layout .layout .ensures) (at-layout2 .layout2 .ensures) (c .layout3 .ensures) q m2 w2 fd))
