@@ -1,3 +1,4 @@
+#![tactic(auto)]
 // Codes of the messages that a daemon sends while it works. The names are those of nix-wire.
 ghost use Rattle.std.specs.Prelude.{◌≡◌};
 ghost use Rattle.codes.specs.Stderr.{code_number, code_of, is_terminal};

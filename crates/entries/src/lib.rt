@@ -1,3 +1,4 @@
+#![tactic(auto)]
 // Entries in lent memory: start and length of a string, as two numbers or as sixteen bytes. Who has the one form lends the other one empty; `number` alone knows
 // both. An entry may hold any numbers: the tests come before every sum.
 ghost use Rattle.std.specs.Prelude.{◌<◌, ◌≡◌, length, get_or};

@@ -1,3 +1,4 @@
+#![tactic(auto)]
 // Both handshakes: turns on two streams, each from where the last turn on that stream ended. All turns are judged in their order, without a write to lent memory but for
 // the numbers, and only then are the entries filled in, as numbers or as bytes: the other room is lent empty. A turn's fields are read one by one and not by the table:
 // a handshake is short, and to go through the table would take most of its time. A version is one number, 256 * major + minor.

@@ -1,3 +1,4 @@
+#![tactic(auto)]
 // The exact rules, as definitions (`specs/`) and theorems about them (`proofs/`). The code is what the crates above share: the numbers
 // of the refusals, their type, and the record, which the readers fill.
 ghost use Rattle.std.specs.Prelude.{◌≡◌};

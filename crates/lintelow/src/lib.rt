@@ -1,3 +1,4 @@
+#![tactic(auto)]
 // The C boundary: numbers and byte slices. A call returns 0 or the refusal's number and writes its answer into the block; a block that is too short is
 // refused before all else: `lintelow_answers::put` refuses it, and a call that lends other room looks before it reads.
 ghost use Rattle.std.specs.Prelude.{◌≡◌};

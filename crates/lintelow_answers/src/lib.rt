@@ -1,3 +1,4 @@
+#![tactic(auto)]
 // What the skippers, the readers of one field, the writers and the tests say, as whole answers for the C boundary; and an answer as a block of 25 numbers of eight bytes.
 ghost use Rattle.std.specs.Prelude.{◌≡◌, ◌*◌, ◌≤◌, length, eqb};
 ghost use Rattle.layouts.specs.Primitive.{ok, pick, version};

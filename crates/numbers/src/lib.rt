@@ -1,3 +1,4 @@
+#![tactic(auto)]
 // Numbers of eight and of four bytes at the start of a part, read and written. The bytes are put together and taken apart one by one; LLVM makes one load or one
 // store of that.
 ghost use Rattle.std.specs.Prelude.{◌≡◌, ◌≤◌, ◌<◌, length};

@@ -1,3 +1,4 @@
+#![tactic(auto)]
 // One piece at a place of a stream: a number, a string, a chunk. A part is handed on only after a test that the stream has it, so no place is too large.
 ghost use Rattle.std.specs.Prelude.{◌≡◌, ◌+◌, ◌<◌, ◌≤◌, length};
 ghost use Rattle.layouts.specs.Primitive.{number_at, pad_of};

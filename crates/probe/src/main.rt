@@ -1,3 +1,4 @@
+#![tactic(auto)]
 // Answers requests about the library: reads them from standard input until its end and writes one line for each. crates/probe/README.md has the form
 // of requests and lines. A request that is cut short or beyond the limits, which are the lengths of the buffers here, ends the program with the line `stopped`.
 mod line;

@@ -1,3 +1,4 @@
+#![tactic(auto)]
 // The calls by the numbers of the probe's table, over the C boundary: for the programs `probe` and `probe_replay`, and no part of the library that is shipped. Each
 // writes its answer into the block and gives 0, the refusal's number or NO_CALL. No contracts: what is proved is that each ends without a fault.
 pub mod lent;

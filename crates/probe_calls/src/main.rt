@@ -1,3 +1,4 @@
+#![tactic(auto)]
 // Reads and skips the arguments and the reply of every operation number from 0 to 48 at versions 1.9 to 1.38, 0.255, 2.0 and 65535.255, over two streams:
 // one of zeros (empty strings and sets, false flags), and one whose every number is 1; then the arguments that published mode has otherwise. Each line says from
 // which version on the answer is what. Then the stderr loop, error blocks and both handshakes, with entries in memory of numbers: each line ends with all that was lent, sevens

@@ -1,3 +1,4 @@
+#![tactic(auto)]
 // Replays a list of requests that the Rust answered once: makes each call by the C boundary and holds the answer against the Rust's. compare/README.md,
 // "The list", says how the list is made.
 mod hold;

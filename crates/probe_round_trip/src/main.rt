@@ -1,3 +1,4 @@
+#![tactic(auto)]
 // Writes strings, a set, framed data and calls, reads them back, and says what came back. A string of 268,435,456 bytes does not fit in a test's memory;
 // the theorems speak of it, and here a string of 1 MiB is run.
 ghost use Rattle.std.specs.Prelude.{◌≤◌};

@@ -1,3 +1,4 @@
+#![tactic(auto)]
 // Runs vectors of RFC 3629 over the crate `text`, one to a line: how many octets lie before the first that begins no character of section 4's
 // grammar, and whether all of them are text. The file `stdin` has the vectors, and the reason for each group of them in a comment. A vector is
 // octets and a colon, or a name, a colon and octets. The file `stdout` has what is right.

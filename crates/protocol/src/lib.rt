@@ -1,3 +1,4 @@
+#![tactic(auto)]
 // Arguments and replies by operation, under the names of nix-wire's protocol.rs. Each call takes the part of the stream that starts where the last one
 // ended.
 ghost use Rattle.std.specs.Prelude.{◌≡◌, [], false, ℕ};

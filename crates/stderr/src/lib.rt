@@ -1,3 +1,4 @@
+#![tactic(auto)]
 // The stderr loop: the messages that a daemon sends before its reply, with and without the error block. Names are those of nix-wire's protocol.rs.
 ghost use Rattle.std.specs.Prelude.{◌≡◌};
 ghost use Rattle.layouts.specs.Primitive.{version};

@@ -1,3 +1,4 @@
+#![tactic(auto)]
 // What a layout's table holds: the types of a field, a group of fields and the row of an operation, and the numbers that they are told by. The packed tables
 // themselves are definitions here; `table_code` and `table_operations` have them as code.
 pub mod kinds;

@@ -1,3 +1,4 @@
+#![tactic(auto)]
 // The table as code, read by place: the operations as one constant table of structs, and the groups and fields of every layout, packed.
 mod operations;
 mod packed;

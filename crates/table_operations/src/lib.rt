@@ -1,3 +1,4 @@
+#![tactic(auto)]
 // The shapes of an operation by its number, the kind of an answer, and which operations come with framed data. The constant table itself is in `table_code`; reading
 // it is passed on here.
 mod decided;

@@ -1,14 +1,14 @@
 -- `charLength` against the grammar's `UTF8-char`: where it says n > 0, the first n octets are a character (`begins`); and a list that begins with a
 -- character has that character's length (`char-length`).
 use Prim.Native.Nat.{ℕ, ◌≤◌, ◌<◌}
-use mathlib.Core.Bool.{Bool, true, false, not, ◌&&◌, cond}
+use mathlib.Core.Bool.{Bool, true, false, ◌&&◌, cond}
 use mathlib.Core.List.{List, [], ◌∷◌, ◌++◌}
 use mathlib.Core.Path.{◌≡◌, refl}
 use mathlib.Core.Logic.{◌↔◌, ◌≢◌}
 use native.Mathlib.Omega.{arith}
 use native.Mathlib.Decide.{ℕ_discrete, dec_lt}
 use lib.ListN.{length, get_or, take}
-use lib.Dec.{T, leb, leb→le, le→leb, nleb→lt}
+use lib.Dec.{T, leb, leb→le, le→leb}
 use borrow.Author.Tests.{le-leb, lt-leb, ne_eqb}
 use Rattle.text.specs.Rfc3629.{In, UTF8-tail, UTF8-3, UTF8-4, UTF8-char}
 use Rattle.text.specs.Rfc3629.UTF8-1.{00-7F}

@@ -2,12 +2,10 @@
 use Prim.Native.Nat.{ℕ, ◌+◌, ◌*◌, ◌-◌, ◌/◌, ◌%◌, ◌≤◌, ◌<◌}
 use mathlib.Core.Path.{◌≡◌, refl, sym, ap, ◌∙◌}
 use mathlib.Core.List.{List, [], ◌∷◌}
-use mathlib.Core.Bool.{Bool, true, false, cond}
 use native.Mathlib.Omega.{arith}
-use native.Mathlib.Decide.{dec_le, ℕ_discrete}
-use lib.Dec.{leb}
+use native.Mathlib.Decide.{dec_le}
 use borrow.Author.Tests.{le-leb, lt-leb}
-use Rattle.text.specs.Rfc3629.{In, UTF8-tail, UTF8-3, UTF8-4, UTF8-char, CharNumber, tail_of, encode, Encodes}
+use Rattle.text.specs.Rfc3629.{In, UTF8-tail, UTF8-char, CharNumber, tail_of, encode, Encodes}
 use Rattle.text.specs.Rfc3629.UTF8-1.{00-7F}
 use Rattle.text.specs.Rfc3629.UTF8-2.{C2-DF}
 use Rattle.text.specs.Rfc3629.UTF8-3.{E0, E1-EC, ED, EE-EF}

@@ -1,3 +1,4 @@
+#![tactic(auto)]
 // Judges whether bytes are text, by RFC 3629. `specs/Prefix.antt` has what the contracts cite; `proofs/Meaning.antt` proves that it is the
 // RFC's grammar, `specs/Rfc3629.antt`.
 ghost use Rattle.std.specs.Prelude.{◌≤◌, ◌<◌, ◌≡◌, true, cond, [], ◌∷◌, T, length, get_or};

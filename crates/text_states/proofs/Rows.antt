@@ -1,6 +1,6 @@
 -- The row of a byte, as the arms of a match give it, and what it has for a state.
 use Prim.Native.Nat.{ℕ, zero, suc, ◌/◌, ◌%◌, ◌^◌, ◌≤◌, ◌<◌}
-use mathlib.Core.Path.{◌≡◌, sym, ap, ◌∙◌}
+use mathlib.Core.Path.{◌≡◌, sym, ap}
 use native.Mathlib.Omega.{arith}
 use lib.Bits.{bit_and, and_mask}
 use borrow.Author.Tests.{lt-leb}

@@ -1,3 +1,4 @@
+#![tactic(auto)]
 // The machine of `specs/States.antt` over bytes: no branch depends on what they are.
 ghost use Rattle.std.specs.Prelude.{◌≡◌};
 ghost use Rattle.text_states.specs.States.{row_of, next_state, run_states};

@@ -1,3 +1,4 @@
+#![tactic(auto)]
 // Protocol versions, and what the sides send from which version on. The names are those of nix-wire.
 ghost use Rattle.std.specs.Prelude.{◌+◌, ◌*◌, ◌≡◌};
 ghost use Rattle.layouts.specs.Primitive.{version, from_wire, at_least};

@@ -1,3 +1,4 @@
+#![tactic(auto)]
 // Views: string number i as a part of the caller's bytes, a handshake's feature as a part of the client's or the daemon's, and the store path test.
 ghost use Rattle.std.specs.Prelude.{◌≤◌, ◌≡◌, length, take};
 ghost use Rattle.layouts.specs.Primitive.{pick, same};

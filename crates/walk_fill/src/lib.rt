@@ -1,3 +1,4 @@
+#![tactic(auto)]
 // Filling: what the pieces of a layout report goes into lent memory, the entries and the payload, in one fold over items. It only copies: lengths, text and room
 // were judged before, and nothing is refused here. All that it asks of a piece is whether the stream has it. Of a layout that was not judged it fills in what
 // stands before the first piece that is not there. What lies past the end of a room falls away; who wants entries as numbers alone, or as bytes alone, lends an

@@ -1,3 +1,4 @@
+#![tactic(auto)]
 // The items of a layout, one a call, without a stream: the next field, the flag or count that a group begins with, a place where nothing is read, the end.
 // The state is four numbers, which a fold keeps in locals of its own. Any state is an input like any other.
 ghost use Rattle.std.specs.Prelude.{◌≡◌, ℕ, true};

@@ -1,3 +1,4 @@
+#![tactic(auto)]
 // The judge: a fold over items that ends in the record of a layout, or in the first refusal. It writes no lent room but that of the record's numbers. What an
 // item has is judged by `walk_take`.
 ghost use Rattle.std.specs.Prelude.{◌≡◌, ℕ, ◌≤◌};

@@ -1,3 +1,4 @@
+#![tactic(auto)]
 // Passing over the items of a layout, whatever they are, without a look at contents.
 ghost use Rattle.std.specs.Prelude.{◌≡◌, ℕ, ◌≤◌};
 ghost use Rattle.layouts.specs.Primitive.{Version};

@@ -1,3 +1,4 @@
+#![tactic(auto)]
 // A layout from the start of the stream, by the row of an operation: judged first, without a write to the rooms, and only then filled in, so a refusal changes
 // no lent memory. Entries go into a room of numbers or into one of bytes: the other one is lent empty.
 ghost use Rattle.std.specs.Prelude.{◌≡◌};

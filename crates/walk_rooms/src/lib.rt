@@ -1,3 +1,4 @@
+#![tactic(auto)]
 // What is put into a lent room, from a place on: bytes, and an entry as two numbers or as sixteen bytes. What lies past the end of the room falls away, so that
 // nothing is asked for; what comes next goes to the place that is answered.
 ghost use Rattle.std.specs.Prelude.{◌≡◌, [], ◌∷◌, ◌+◌, ◌*◌, ◌/◌, ◌≤◌, min, length, take};

@@ -1,3 +1,4 @@
+#![tactic(auto)]
 // A shape of an operation, read from the start of the stream: a layout in brief, or judged and filled in.
 ghost use Rattle.std.specs.Prelude.{◌≡◌, List, ℕ, ◌<◌};
 ghost use Rattle.entries.specs.Entries.{slots_in};

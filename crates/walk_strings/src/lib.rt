@@ -1,3 +1,4 @@
+#![tactic(auto)]
 // Strings in a row, as a set or pairs have them: `pend` of them, and then `left` times `extra` + 1.
 ghost use Rattle.std.specs.Prelude.{◌≡◌, ◌≤◌, length};
 ghost use Rattle.layouts.specs.Shape.{Role};

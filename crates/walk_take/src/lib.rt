@@ -1,3 +1,4 @@
+#![tactic(auto)]
 // A string, a series of strings, framed data, a number that is dropped: judged one by one, for the fold of `walk_judge`. Text and room are judged here, and not by the
 // iterator. The first entries go into a window.
 ghost use Rattle.std.specs.Prelude.{◌≡◌, ℕ, ◌+◌, ◌-◌, ◌≤◌, length, List, ◌∷◌};

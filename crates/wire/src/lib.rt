@@ -1,3 +1,4 @@
+#![tactic(auto)]
 // The readers of nix-wire's wire_async.rs, under its names and in its order. A cursor by value stands for the place in the stream: each method
 // answers what it read with the next cursor, or the refusal with its place. A cursor past the end is refused like any stream that is cut short.
 ghost use Rattle.std.specs.Prelude.{◌≡◌, length};

@@ -1,3 +1,4 @@
+#![tactic(auto)]
 // Writers of numbers, strings and framed data. Each puts its whole output at the start of the lent bytes and answers its length, or refuses and changes nothing.
 ghost use Rattle.std.specs.Prelude.{◌≡◌, ◌++◌, ◌+◌, ◌-◌, ◌≤◌, ◌<◌, min, length, take, drop};
 ghost use Rattle.layouts.specs.Primitive.{little_end, number_bytes};

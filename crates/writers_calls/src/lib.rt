@@ -1,3 +1,4 @@
+#![tactic(auto)]
 // The writer of calls: the arguments of an operation, field by field. All is judged before anything is written. Entries are in either form, the other one lent
 // empty.
 ghost use Rattle.std.specs.Prelude.{◌≡◌, ◌++◌, ◌+◌, ◌*◌, ◌≤◌, ◌<◌, length, get_or};

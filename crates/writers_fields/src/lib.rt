@@ -1,3 +1,4 @@
+#![tactic(auto)]
 // The fields of a call that is to be written: whether the numbers are of their shape, and what they need.
 ghost use Rattle.std.specs.Prelude.{◌≡◌, ◌-◌, false, length};
 ghost use Rattle.layouts.specs.Primitive.{pick, refused, onward, no_such_entry, not_of_shape};

@@ -1,3 +1,4 @@
+#![tactic(auto)]
 // Parts of an output, put at a place, for the writers; and what every writer answers. A part that does not fit at its place is left out as a whole.
 ghost use Rattle.std.specs.Prelude.{◌≡◌, ◌++◌, ◌+◌, length, replicate, leb};
 ghost use Rattle.layouts.specs.Primitive.{number_bytes, pad_of};

@@ -1,3 +1,4 @@
+#![tactic(auto)]
 // The writer of sets of strings. The strings are entries of some bytes, in either form, the other one lent empty; all is judged before anything is written.
 ghost use Rattle.std.specs.Prelude.{◌≡◌, ◌-◌, ◌≤◌, length};
 ghost use Rattle.layouts.specs.Writers.{set_bytes, texts_from, texts_of, write_string_set};

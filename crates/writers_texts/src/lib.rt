@@ -1,3 +1,4 @@
+#![tactic(auto)]
 // Texts that are made of numbers: a mode, "N paths", "N overrides". Each is put at the start of the lent bytes, or refused.
 ghost use Rattle.std.specs.Prelude.{◌≡◌, ◌++◌, ◌≤◌, length, drop};
 ghost use Rattle.layouts.specs.Writers.{writing, decimal, mode_text, paths_text, overrides_text};

@@ -6,9 +6,7 @@ use native.Mathlib.Omega.{arith}
 use lib.ListN.{length, get_or}
 use borrow.Author.Tests.{lt-leb, le-leb}
 use Rattle.text.specs.Prefix.{longer, char_length}
-use borrow.Author.Rules.{rules}
-use Rattle.text.proofs.char_length.Statement.{statement}
-use Rattle.text.proofs.char_length.Tie as tie
+use Rattle.text.proofs.char_length.Goals as goal
 
 none_is : (s : List ℕ) → length s ≡ 0 → 0 ≡ char_length s
 unfolding char_length
@@ -26,15 +24,11 @@ unfolding char_length
 longer_is [] n b c d l g eb ec ed e = absurd (l refl)
 longer_is (a ∷ r) n b c d l g eb ec ed e = simp (lt-leb a 0x7F g, ← eb, ← ec, ← ed) e
 
-pub char-length-spec : {M : Type 1} → statement M
-char-length-spec =
-    tie.close
-    (tie.spec
-    (λ c. search none_is)
-    (λ c. search rules)
-    (λ c. search one_is)
-    (λ c κs. search rules)
-    (λ c κs. search rules)
-    (λ c κs. search rules)
-    (λ c κs. search rules)
-    (λ c. search longer_is))
+pub returns-then-s-eq0 : goal.returns-then-s-eq0
+returns-then-s-eq0 c = search none_is
+
+pub returns-then-a-le127 : goal.returns-then-a-le127
+returns-then-a-le127 c = search one_is
+
+pub returns : goal.returns
+returns c = search longer_is

@@ -6,9 +6,7 @@ use lib.ListN.{length}
 use Rattle.text.specs.Rfc3629.{Text}
 use Rattle.text.specs.Prefix.{good_prefix}
 use Rattle.text.proofs.Meaning.{whole_text, text_whole}
-use borrow.Author.Rules.{rules}
-use Rattle.text.proofs.is_text.Statement.{statement}
-use Rattle.text.proofs.is_text.Tie as tie
+use Rattle.text.proofs.is_text.Goals as goal
 
 yes_text : (s : List ℕ) (n : ℕ) → n ≡ good_prefix s → n ≡ length s → Text s
 yes_text s n e l = whole_text s (sym e ∙ l)
@@ -16,5 +14,8 @@ yes_text s n e l = whole_text s (sym e ∙ l)
 no_text : (s : List ℕ) (n : ℕ) → n ≡ good_prefix s → (n ≡ length s → ⊥) → Text s → ⊥
 no_text s n e l x = l (e ∙ text_whole s x)
 
-pub is-text-spec : {M : Type 1} → statement M
-is-text-spec = tie.close (tie.spec (λ c κs. search rules) (λ c. search yes_text) (λ c. search no_text))
+pub returns-then-text_end-s : goal.returns-then-text_end-s
+returns-then-text_end-s c = search yes_text
+
+pub returns : goal.returns
+returns c = search no_text

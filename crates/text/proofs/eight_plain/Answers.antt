@@ -8,11 +8,8 @@ use lib.ListN.{length, get_or, take, drop}
 use lib.Seq.{drop-cons}
 use lib.Dec.{T}
 use Rattle.text.specs.Prefix.{all_plain, PlainFor}
-use borrow.Author.Rules.{rules}
-use Rattle.text.proofs.eight_plain.Statement.{statement}
-use Rattle.text.proofs.eight_plain.Tie as tie
+use Rattle.text.proofs.eight_plain.Goals as goal
 
--- n elements from k on, as code reads them
 abbrev span : (n k : ℕ) → List ℕ → List ℕ
 span zero k s = []
 span (suc n) k s = get_or s k 0 ∷ span n (suc k) s
@@ -26,18 +23,8 @@ first_eight : (s : List ℕ) (t : Bool) → 8 ≤ length s
     → t ≡ true → PlainFor 8 s
 first_eight s t h p e = record { there = h; ascii = rw (span_take 8 0 s h) (p e) }
 
-pub eight-plain-spec : {M : Type 1} → statement M
-eight-plain-spec =
-    tie.close
-    (tie.spec
-    (λ c. λ e. absurd (false≢true e))
-    (λ c. search rules)
-    (λ c. search rules)
-    (λ c. search rules)
-    (λ c. search rules)
-    (λ c. search rules)
-    (λ c. search rules)
-    (λ c. search rules)
-    (λ c. search rules)
-    (λ c κs. search rules)
-    (λ c. search first_eight))
+pub returns-then-s-lt8 : goal.returns-then-s-lt8
+returns-then-s-lt8 c = λ e. absurd (false≢true e)
+
+pub returns : goal.returns
+returns c = search first_eight

@@ -3,9 +3,7 @@ use Prim.Native.Nat.{ℕ}
 use mathlib.Core.Path.{◌≡◌, sym, ◌∙◌}
 use mathlib.Core.Bool.{Bool, true, false}
 use Rattle.text.specs.Prefix.{is_two, is_three, is_four, longer}
-use borrow.Author.Rules.{rules}
-use Rattle.text.proofs.longer_length.Statement.{statement}
-use Rattle.text.proofs.longer_length.Tie as tie
+use Rattle.text.proofs.longer_length.Goals as goal
 
 two_is : (a b c d : ℕ) (t : Bool) → t ≡ is_two a b → t ≡ true → 2 ≡ longer a b c d
 unfolding longer
@@ -23,14 +21,14 @@ none_is : (a b c d : ℕ) (t u v : Bool) → t ≡ is_two a b → t ≡ false �
 unfolding longer
 none_is a b c d t u v e h f g k l = simp (sym e ∙ h, sym f ∙ g, sym k ∙ l)
 
-pub longer-length-spec : {M : Type 1} → statement M
-longer-length-spec =
-    tie.close
-    (tie.spec
-    (λ c κs. search rules)
-    (λ c. search two_is)
-    (λ c κs. search rules)
-    (λ c. search three_is)
-    (λ c κs. search rules)
-    (λ c. search four_is)
-    (λ c. search none_is))
+pub returns-then-is_two : goal.returns-then-is_two
+returns-then-is_two c = search two_is
+
+pub returns-then-is_three : goal.returns-then-is_three
+returns-then-is_three c = search three_is
+
+pub returns-then-is_four : goal.returns-then-is_four
+returns-then-is_four c = search four_is
+
+pub returns : goal.returns
+returns c = search none_is

@@ -1,0 +1,7 @@
+-- `text::at` meets its contract: past the end `get_or` gives 0.
+use mathlib.Core.Path.{sym}
+use lib.ListN.{get_or-eq_default}
+use Rattle.text.proofs.at.Goals as goal
+
+pub returns : goal.returns
+returns c = sym (get_or-eq_default c.args.s.now 0 c.if-i-s.false)
