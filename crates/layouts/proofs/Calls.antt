@@ -9,7 +9,7 @@ use Rattle.layouts.specs.declared.Mode.TheVariants.{Ported}
 use Rattle.layouts.specs.Primitive.{pick, bad_text, Version, Result, ok, refused, onward}
 use Rattle.layouts.specs.Shape.{Tree, layout}
 use Rattle.layouts.specs.Pieces.{Pieces, number, text, half, chunk, end, fault, run, skip_of, total_of}
-use Rattle.layouts.specs.Record.{blank, record_of}
+use Rattle.layouts.specs.Record.{blank}
 use Rattle.layouts.specs.Judge.{not_text, text_end, Ended, judge_of}
 use Rattle.layouts.specs.Soft.{Softened, kept_of, unless_bad}
 use Rattle.layouts.specs.Operations.{Kinds, Row, row, unknown, find}

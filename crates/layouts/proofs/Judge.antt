@@ -6,7 +6,7 @@ use mathlib.Core.List.{List}
 use mathlib.Core.Bool.{Bool, true, false, not, ◌&&◌, false≢true}
 use lib.ListN.{length, take, drop, length-append, length-take, length-drop}
 use lib.Dec.{leb}
-use borrow.Author.Tests.{leb-true, leb-false, not_true, not_false}
+use borrow.Author.Tests.{leb-true, leb-false, not-true, not-false}
 use native.Mathlib.Omega.{arith}
 use Rattle.text.specs.Prefix.{good_prefix, is_text}
 use Rattle.text.proofs.Meaning.{is_text_lem, ill_formed}
@@ -51,7 +51,7 @@ record_room r (fault which place) = (omega arith, omega arith)
 module _ (s : List ℕ) (m : Role) (start len : ℕ) where
   pub not_bad : not_text s m start len ≡ false → Fine s m start len
   unfolding not_text
-  not_bad e d = is_text_lem (take len (drop start s)) (not_false (is_text (take len (drop start s))) (rw d at e))
+  not_bad e d = is_text_lem (take len (drop start s)) (not-false (is_text (take len (drop start s))) (rw d at e))
 
   pub text_bad : not_text s m start len ≡ true → (n : ℕ) × (text_end s start len ≡ start + n) × Bad s m start len n
   unfolding not_text text_end
@@ -61,7 +61,7 @@ module _ (s : List ℕ) (m : Role) (start len : ℕ) where
       c = take len (drop start s)
 
       by : (b : Bool) → is_decoded m ≡ b → b && not (is_text c) ≡ true → (n : ℕ) × (text_end s start len ≡ start + n) × Bad s m start len n
-      by true d h = (good_prefix c, refl, (d, ill_formed c (not_true (is_text c) h)))
+      by true d h = (good_prefix c, refl, (d, ill_formed c (not-true (is_text c) h)))
       by false d h = absurd (false≢true h)
 
   -- so it ends in the contents
@@ -191,7 +191,7 @@ entries_length (chunk start len p) = entries_length p
 entries_length (end place) = refl
 entries_length (fault which place) = refl
 
-pub payload_length : {G : Type 0} {lo : ℕ} {p : Pieces} (s : List ℕ) → Placed G (length s) lo p → length (payload_of s p) ≡ total_of p
+pub payload_length : {G : Type 0} (s : List ℕ) {lo : ℕ} {p : Pieces} → Placed G (length s) lo p → length (payload_of s p) ≡ total_of p
 unfolding payload_of total_of
 payload_length s (on_number_lem lo x a b h) = payload_length s h
 payload_length s (on_text lo start len a b h) = payload_length s h

@@ -5,7 +5,7 @@ use mathlib.Core.List.{List, [], ◌∷◌, ◌++◌, append_assoc, append-nil}
 use mathlib.Core.Bool.{Bool, true, false}
 use lib.ListN.{length, get_or, take, drop, replicate, length-append, length-drop, length-replicate, get_or-replicate, get_or-append}
 use lib.Seq.{get_or-drop, take-append_seam, ext_get_or}
-use borrow.Author.Tests.{not_false, le-leb, lt-leb, lt-ltb}
+use borrow.Author.Tests.{not-false, le-leb, lt-leb, lt-ltb}
 use native.Mathlib.Omega.{arith}
 use native.Mathlib.Nat.{add-zero}
 use Rattle.text.specs.Prefix.{is_text}
@@ -210,7 +210,7 @@ not_refused false which place o x h = (refl, h)
 
 taken_text : (s : List ℕ) (slots : ℕ) (r a : Record) (start len : ℕ) → text_taken s slots r kept start len ≡ ok a → is_text (take len (drop start s)) ≡ true
 unfolding text_taken not_text
-taken_text s slots r a start len h = not_false (is_text (take len (drop start s))) (not_refused (not_text s kept start len) bad_text (text_end s start len) _ a h).0
+taken_text s slots r a start len h = not-false (is_text (take len (drop start s))) (not_refused (not_text s kept start len) bad_text (text_end s start len) _ a h).0
 
 strings_back : (s u : List ℕ) (slots room n at : ℕ) (b : List ℕ) (p : Pieces) (r : Record) (x : Ended) → Says (units kept 0 n (λ u. stop)) at b p → drop at s ≡ b ++ u
     → ZeroPadded s p → judge_of s slots room r p ≡ ok x → (cs : List (List ℕ)) × (strings_bytes cs ≡ b) × (length cs ≡ n) × Strings cs

@@ -7,7 +7,6 @@ use lib.ListN.{length, take, drop}
 use lib.Dec.{leb, ltb, eqb}
 use native.Mathlib.Omega.{arith}
 use Rattle.text.specs.Prefix.{is_text}
-use Rattle.text.specs.Rfc3629.{Text}
 use Rattle.layouts.specs.declared.Mode.TheVariants.{Ported}
 use Rattle.layouts.specs.declared.Record.{Record}
 use Rattle.layouts.specs.Primitive.{pick, number_at, pad_of, cut_short, bad_text, no_entry_room, no_payload_room, output_full, no_such_entry, bad_entry, no_arguments, not_of_shape, Version, version, Result, ok, refused, onward}

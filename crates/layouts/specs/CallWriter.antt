@@ -3,7 +3,7 @@ use Rattle.std.specs.Prelude.{ℕ, zero, suc, ◌+◌, List, [], ◌∷◌, ◌+
 use Rattle.std.proofs.Math.ListN as ListN
 use Rattle.layouts.specs.Primitive.{pick, number_bytes, Version, unknown_operation, no_such_entry, no_arguments, not_of_shape, Result, ok, refused, onward}
 use Rattle.layouts.specs.Shape.{Target, dropped, as_number, as_flag, as_count, as_presence, What, num, str, set, pairs, framed, maybe, typed, position, Gated, there, what}
-use Rattle.layouts.specs.Operations.{kind_of, Operation, Row, row, unknown}
+use Rattle.layouts.specs.Operations.{kind_of, Row, row, unknown}
 use Rattle.layouts.specs.Calls.{Context, chosen, arguments_kinds}
 use Rattle.layouts.specs.Writers.{slots_of, strings_bytes, framed_bytes, texts_from, writing}
 

@@ -1,10 +1,10 @@
 -- The four calls over the table, and the readers of one field.
-use Rattle.std.specs.Prelude.{ℕ, ◌+◌, List, [], ◌∷◌, ◌++◌, Bool, ◌||◌, length, leb, eqb}
+use Rattle.std.specs.Prelude.{ℕ, ◌+◌, List, [], ◌∷◌, Bool, ◌||◌, length, leb, eqb}
 use Rattle.layouts.specs.declared.Mode.{Mode}
 use Rattle.layouts.specs.declared.Mode.TheVariants.{Ported}
 use Rattle.layouts.specs.declared.Record.{Record}
 use Rattle.layouts.specs.Primitive.{pick, little_at, number_at, Version, version, cut_short, unknown_operation, Result, ok, refused, onward}
-use Rattle.layouts.specs.Shape.{dropped, as_number, as_count, passed, kept, What, num, str, set, framed, Gated, always, once, Tree, fail, layout}
+use Rattle.layouts.specs.Shape.{as_number, as_count, passed, kept, What, num, str, set, framed, always, once, Tree, fail, layout}
 use Rattle.layouts.specs.Pieces.{Pieces, Num, num_of, run, skip_of, total_of}
 use Rattle.layouts.specs.Record.{blank, with_number}
 use Rattle.layouts.specs.Judge.{Ended, judge_of, entries_of, payload_of, lent_after}

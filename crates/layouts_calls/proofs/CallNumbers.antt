@@ -8,7 +8,7 @@ use lib.ListN.{length, get_or, length-set}
 use lib.ListN as ListN
 use lib.Seq.{set-append_left, get_or-set_same, get_or-set_other}
 use lib.Dec.{ltb, eqb}
-use borrow.Author.Tests.{not_true, ltb-true, eqb-true, eqb-false, le-leb}
+use borrow.Author.Tests.{not-true, ltb-true, eqb-true, eqb-false, le-leb}
 use native.Mathlib.Omega.{arith}
 use Rattle.layouts.specs.declared.Record.{Record}
 use Rattle.layouts.specs.Primitive.{pick}
@@ -74,9 +74,9 @@ pub value_stays : (l ns : List ℕ) (t : Target) (n : ℕ) (ws : List What) → 
     → ((j : ℕ) → taken ws j ≡ false → get_or ns j 0 ≡ get_or (put l t n) j 0) → value_for ns t ≡ n
 unfolding value_for
 value_stays l ns dropped n ws e f h o g = sym o
-value_stays l ns (as_number i) n ws e f h o g = g i (not_true (taken ws i) f) ∙ put_value l (as_number i) n e h o
-value_stays l ns (as_flag i) n ws e f h o g = g i (not_true (taken ws i) f) ∙ put_value l (as_flag i) n e h o
-value_stays l ns (as_count i) n ws e f h o g = g (12 + i) (not_true (taken ws (12 + i)) f) ∙ put_value l (as_count i) n e h o
+value_stays l ns (as_number i) n ws e f h o g = g i (not-true (taken ws i) f) ∙ put_value l (as_number i) n e h o
+value_stays l ns (as_flag i) n ws e f h o g = g i (not-true (taken ws i) f) ∙ put_value l (as_flag i) n e h o
+value_stays l ns (as_count i) n ws e f h o g = g (12 + i) (not-true (taken ws (12 + i)) f) ∙ put_value l (as_count i) n e h o
 value_stays l ns as_presence n ws e f h o g = absurd (never_true e)
 
 pub numbers_length : (l : List ℕ) (p : Pieces) → length (numbers_of l p) ≡ length l

@@ -4,7 +4,7 @@ use mathlib.Core.Path.{◌≡◌, refl, sym, ap, subst}
 use mathlib.Core.List.{List, [], ◌∷◌, map}
 use mathlib.Core.Bool.{Bool, true, false, not, ◌&&◌, ◌||◌}
 use lib.Dec.{ltb, eqb}
-use borrow.Author.Tests.{not_true, eqb-true}
+use borrow.Author.Tests.{not-true, eqb-true}
 use Rattle.layouts.specs.declared.Mode.{Mode}
 use Rattle.layouts.specs.declared.Mode.TheVariants.{Ported, Published}
 use Rattle.layouts.specs.Primitive.{pick, Version, version, at_least}
@@ -142,7 +142,7 @@ module _ (v : Version) where
   not_beside : (x y : Gated) → apart x y ≡ true → there v x ≡ true → there v y ≡ false
   not_beside (always w) y e t = absurd (never_true e)
   not_beside (from a w) y e t = absurd (never_true e)
-  not_beside (below a w) y e t = begun a y e (not_true _ t)
+  not_beside (below a w) y e t = begun a y e (not-true _ t)
   not_beside (between a b w) y e t = absurd (never_true e)
 
   module _ (x : Gated) (t : there v x ≡ true) where
@@ -160,9 +160,9 @@ module _ (v : Version) where
 
     fewer_free : (xs : List Gated) (i : Target) → free i (beside x xs) ≡ true → free i (fields_there v xs) ≡ true
     fewer_free xs dropped e = refl
-    fewer_free xs (as_number i) e = ap not (fewer_taken xs i (not_true _ e))
-    fewer_free xs (as_flag i) e = ap not (fewer_taken xs i (not_true _ e))
-    fewer_free xs (as_count i) e = ap not (fewer_taken xs (12 + i) (not_true _ e))
+    fewer_free xs (as_number i) e = ap not (fewer_taken xs i (not-true _ e))
+    fewer_free xs (as_flag i) e = ap not (fewer_taken xs i (not-true _ e))
+    fewer_free xs (as_count i) e = ap not (fewer_taken xs (12 + i) (not-true _ e))
     fewer_free xs as_presence e = refl
 
   last_once : (xs : List Gated) (b : Bool) → pick b (is_none xs) true ≡ true → b && has_frames (fields_there v xs) ≡ false

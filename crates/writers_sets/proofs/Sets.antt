@@ -8,7 +8,7 @@ use lib.ListN.{length, take, drop, length-append}
 use native.Mathlib.Nat.{sub-zero, add-sub_cancel_left}
 use native.Mathlib.Omega.{arith}
 use native.Mathlib.Decide.{dec_le, dec_lt}
-use borrow.Author.Tests.{le-leb, lt-leb, le-ltb, lt-ltb, leb-true, not_false}
+use borrow.Author.Tests.{le-leb, lt-leb, le-ltb, lt-ltb, leb-true, not-false}
 use Rattle.text.specs.Rfc3629.{Judged}
 use Rattle.text.specs.Prefix.{is_text}
 use Rattle.text.proofs.Meaning.{judged_is}
@@ -243,7 +243,7 @@ module _ (bytes es : List ℕ) (next i₀ at₀ : ℕ) (o₀ : List ℕ) where
           record { same = rw g e; size = omega arith; small = omega arith }
 
 pub place_fits : (b : Bool) (at n size : ℕ) → b ≡ leb (at + n) size → not b ≡ false → size < 9223372036854775808 → at + n < 18446744073709551616
-place_fits b at n size e f h = let l = leb-true (at + n) size (sym e ∙ not_false b f) in omega arith
+place_fits b at n size e f h = let l = leb-true (at + n) size (sym e ∙ not-false b f) in omega arith
 
 -- strings that fit are put
 pub strings_put_lem : (cs : List (List ℕ)) (at : ℕ) (o : List ℕ) → at + length (strings_bytes cs) ≤ length o

@@ -6,7 +6,7 @@ use Prim.Native.Nat.{◌+◌, ◌-◌, ◌<◌}
 use mathlib.Core.Path.{sym, ◌∙◌}
 use lib.ListN.{length}
 use native.Mathlib.Omega.{arith}
-use borrow.Author.Tests.{not_true, not_false}
+use borrow.Author.Tests.{not-true, not-false}
 use Rattle.entries.specs.Entries.{numbers_in}
 use Rattle.writers_sets.proofs.Sets.{Putting, putting_start, putting_stop, putting_turn, putting_end, place_fits}
 
@@ -33,7 +33,7 @@ put-strings-spec =
     (λ c.
     let (at-loop, at-in-loop, at_part, at-string-length) : At tie.At-loop × At tie.In-loop × At tie.After-part × At tie.After-string-length = search in
     putting_stop _ _ _ _ _ _ _ _ _ at-loop.loop.inv at-in-loop.loop-test.taken _ at_part.part.ensures.0 _ at-string-length.string-length.ensures
-    (sym c.before.has_room.ensures ∙ not_true _ c.if1.true))
+    (sym c.before.has_room.ensures ∙ not-true _ c.if1.true))
     (λ c κs. search rules)
     (λ c. let (at-loop, at-string-length, at-has-room, at-else1) : At tie.At-loop × At tie.After-string-length × At tie.After-has-room × At tie.Else1 = search in
     let l : at-loop.loop.at + at-string-length.string-length.result < 18446744073709551616 = place_fits _ _ _ (length at-loop.loop.out) at-has-room.has_room.ensures at-else1.if1.left at-loop.loop.inv.small in omega arith)
@@ -43,6 +43,6 @@ put-strings-spec =
     let (at-loop, at-in-loop, at_part, at-string-length, at-has-room, at-else1, at-put-string) : At tie.At-loop × At tie.In-loop × At tie.After-part × At tie.After-string-length × At
     tie.After-has-room × At tie.Else1 × At tie.After-put-string = search in
     putting_turn _ _ _ _ _ _ _ _ _ at-loop.loop.inv at-in-loop.loop-test.taken _ at_part.part.ensures.0 _ at-string-length.string-length.ensures
-    (sym at-has-room.has_room.ensures ∙ not_false _ at-else1.if1.left) _ at-put-string.put-string.ensures)
+    (sym at-has-room.has_room.ensures ∙ not-false _ at-else1.if1.left) _ at-put-string.put-string.ensures)
     (λ c. c.before.loop.invariant.size)
     (λ c. putting_end _ _ _ _ _ _ _ _ _ c.before.loop.invariant c.loop-test.false))
