@@ -1,5 +1,5 @@
 -- The tables stand for the layouts of `layouts`: computed, row by row. `./tables` makes them from what is claimed here.
-use Rattle.std.specs.Prelude.{ℕ, ◌≡◌, refl, List, [], ◌∷◌, ◌++◌, map}
+use Rattle.std.specs.Prelude.{ℕ, ◌≡◌, refl, List, [], ◌∷◌, map}
 use Rattle.layouts.specs.Primitive.{version}
 use Rattle.layouts.specs.Shape.{as_count, kept, set, framed, Group, once, layout}
 use Rattle.layouts.specs.Operations.{arguments_number, reply_number, skipped_number, Kinds, none, only, by_version, by_flag, by_number, skipped_kind, Operation, a_number, a_string, operations, published}
