@@ -19,7 +19,7 @@ const STOP_ACTIVITY: u64 = 0x53544f50;
 
 const RESULT: u64 = 0x52534c54;
 
-#[derive(Drop)]
+#[derive(Clone, Copy)]
 pub enum StderrCode {
     Next,
     Read,

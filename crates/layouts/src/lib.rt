@@ -48,14 +48,14 @@ pub const NOT_OF_SHAPE: u64 = 14;
 pub const NONZERO_POSITION: u64 = 15;
 
 // How arguments and error blocks are read: as nix-wire does, or as the daemon's published source has them.
-#[derive(Drop)]
+#[derive(Clone, Copy)]
 pub enum Mode {
     Ported,
     Published,
 }
 
 // Why a call stops: the refusal's number, its place, and 1 for the daemon's stream of a handshake, else 0.
-#[derive(Drop)]
+#[derive(Clone, Copy)]
 pub struct Refusal {
     pub which: u64,
     pub place: usize,

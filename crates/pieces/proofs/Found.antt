@@ -7,7 +7,7 @@ use native.Mathlib.Omega.{arith}
 use Rattle.layouts.specs.Primitive.{number_at, pad_of}
 use Rattle.layouts.specs.Pieces.{Text, whole, cut, bad, Chunk, part, last, wrong, text_of, chunk_of}
 use Rattle.layouts.specs.Calls.{peek_number}
-use Rattle.layouts.proofs.Views.{TextView, no_length, too_long, no_contents, no_padding, is_whole, ChunkView, no_size, is_last, too_large, no_bytes, is_part, text_view, chunk_view, text_short, text_long, text_contents, text_cut, text_whole, chunk_short, chunk_last, chunk_long, chunk_cut, chunk_part}
+use Rattle.layouts.proofs.Views.{TextView, no_length, too_long_there, no_contents, no_padding, is_whole, ChunkView, no_size, is_last, too_large, no_bytes, is_part, text_view, chunk_view, text_short, text_long, text_contents, text_cut, text_whole, chunk_short, chunk_last, chunk_long, chunk_cut, chunk_part}
 use Rattle.numbers.specs.declared.Number.{Number}
 use Rattle.numbers.specs.declared.Number.TheVariants.{Value, Short}
 use Rattle.layouts.specs.declared.Refusal.{Refusal}
@@ -81,7 +81,7 @@ TextSays size n at (bad which place) = Unit {0}
 
 text_says : {size n at : ℕ} {m : Text} → TextView size n at m → TextSays size n at m
 text_says (no_length h) = tt
-text_says (too_long h l) = tt
+text_says (too_long_there h l) = tt
 text_says (no_contents h l c) = tt
 text_says (no_padding h l c) = (refl, refl, h)
 text_says (is_whole h l) = (refl, refl, omega arith, h)

@@ -13,7 +13,7 @@ use Rattle.layouts.specs.Record.{blank}
 use Rattle.layouts.specs.Judge.{Ended, not_text, half_taken, judge_of, entries_of}
 use Rattle.layouts.specs.Operations.{Kinds, kind_of}
 use Rattle.layouts.specs.Calls.{Answer, peek_number, read_of}
-use Rattle.layouts.proofs.Views.{TextView, no_length, too_long, no_contents, no_padding, is_whole, text_view}
+use Rattle.layouts.proofs.Views.{TextView, no_length, too_long_there, no_contents, no_padding, is_whole, text_view}
 use Rattle.numbers.specs.declared.Number.{Number}
 use Rattle.numbers.specs.declared.Number.TheVariants.{Value, Short}
 use Rattle.pieces.specs.declared.Verdict.{Verdict}
@@ -110,7 +110,7 @@ module _ (s : List ℕ) where
   ends_by : {t : Text} → TextView (length s) (number_at s 0) 0 t → skip_of (after_text t kept (λ a. end a)) ≡ onward (span_of s passed t) (λ p. ok p.ends)
   unfolding span_of half_taken not_text after_text skip_of
   ends_by (no_length h) = refl
-  ends_by (too_long h l) = refl
+  ends_by (too_long_there h l) = refl
   ends_by (no_contents h l c) = refl
   ends_by (no_padding h l c) = refl
   ends_by (is_whole h l) = refl

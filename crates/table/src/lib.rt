@@ -11,7 +11,7 @@ pub use places::{
 };
 
 // A field: its kind (0 ends a group), what becomes of its strings, where its number goes, and whether a version decides that it is there, and which.
-#[derive(Drop)]
+#[derive(Clone, Copy)]
 pub struct Field {
     pub kind: u8,
     pub role: u8,
@@ -21,7 +21,7 @@ pub struct Field {
 }
 
 // A group of fields: its kind (0 ends a layout), where its flag or count goes, and the place of its first field.
-#[derive(Drop)]
+#[derive(Clone, Copy)]
 pub struct PackedGroup {
     pub kind: u8,
     pub target: u8,
@@ -29,7 +29,7 @@ pub struct PackedGroup {
 }
 
 // An operation: its number, the groups of its arguments, of those that are skipped and of its reply, and the kinds of the three answers.
-#[derive(Drop)]
+#[derive(Clone, Copy)]
 pub struct Row {
     pub number: u64,
     pub arguments: u8,

@@ -16,7 +16,7 @@ use layouts::{Mode, Refusal};
 pub use table_code::row_at;
 
 // A shape of an operation: its first group in the table, and the code of its kinds.
-#[derive(Drop)]
+#[derive(Clone, Copy)]
 pub enum Shape {
     Unknown,
     At { first: u8, kind: u8 },

@@ -4,7 +4,7 @@ ghost use Rattle.std.specs.Prelude.{◌+◌, ◌*◌, ◌≡◌};
 ghost use Rattle.layouts.specs.Primitive.{version, from_wire, at_least};
 ghost use Rattle.versions.specs.Handshake.{version_of};
 
-#[derive(Drop)]
+#[derive(Clone, Copy)]
 pub struct ProtocolVersion {
     pub major: u16,
     pub minor: u8,

@@ -11,7 +11,7 @@ use Rattle.layouts.specs.Primitive.{pick, number_at, pad_of, ok}
 use Rattle.layouts.specs.Shape.{Target, Role, Tree, ask, say, frames, fail, stop}
 use Rattle.layouts.specs.Pieces.{Pieces, number, text, chunk, Num, Text, Chunk, after_num, after_text, after_chunk, chunks, run, skip_of}
 use Rattle.layouts.specs.Judge.{Ended, judge_of, entries_of, payload_of}
-use Rattle.layouts.proofs.Views.{NumView, is_value, is_short, num_view, TextView, no_length, too_long, no_contents, no_padding, is_whole, text_view, ChunkView, no_size, is_last, too_large, no_bytes, is_part, chunk_view}
+use Rattle.layouts.proofs.Views.{NumView, is_value, is_short, num_view, TextView, no_length, too_long_there, no_contents, no_padding, is_whole, text_view, ChunkView, no_size, is_last, too_large, no_bytes, is_part, chunk_view}
 use Rattle.layouts.proofs.Placed.{never_both}
 use Rattle.layouts.proofs.Judge.{judge_read}
 use Rattle.walk_items.specs.Items.{layout_tree}
@@ -96,7 +96,7 @@ module _ (s : List ℕ) where
       → if_there s (at + 8 + number_at s at + pad_of (number_at s at)) (text r (at + 8) (number_at s at) (g (at + 8 + number_at s at + pad_of (number_at s at)))) ≡ after_text m r f
   unfolding after_text skip_of
   text_all r at e f g (no_length h) q y = absurd (never_both q)
-  text_all r at e f g (too_long h l) q y = absurd (never_both q)
+  text_all r at e f g (too_long_there h l) q y = absurd (never_both q)
   text_all r at e f g (no_contents h l c) q y = absurd (never_both q)
   text_all r at e f g (no_padding h l c) q y = absurd (never_both q)
   text_all r at e f g (is_whole h l) q y = there s _ _ h ∙ ap (λ (p : Pieces). text r (at + 8) (number_at s at) p) (y _ q)

@@ -40,7 +40,7 @@ fn first(layout: Layout) -> usize
 }
 
 // What comes next, and the state after it: the place of the next field, how often the body comes again, the place of the body, the next group.
-#[derive(Drop)]
+#[derive(Clone, Copy)]
 pub struct Item {
     pub kind: u8,
     pub role: u8,
@@ -52,7 +52,7 @@ pub struct Item {
 }
 
 // A layout that needs no fold: no field at all, or a number or a string and no more. More than half of recorded calls have such a one.
-#[derive(Drop)]
+#[derive(Clone, Copy)]
 pub enum Brief {
     Nothing,
     Number,

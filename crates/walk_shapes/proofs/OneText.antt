@@ -15,7 +15,7 @@ use Rattle.layouts.specs.Shape.{kept, Tree, say, stop}
 use Rattle.layouts.specs.Pieces.{Text, after_text, run, end}
 use Rattle.layouts.specs.Record.{blank, with_entries, entered}
 use Rattle.layouts.specs.Judge.{Ended, not_text, text_taken, half_taken, judge_of, entries_of, payload_of}
-use Rattle.layouts.proofs.Views.{TextView, no_length, too_long, no_contents, no_padding, is_whole, text_view}
+use Rattle.layouts.proofs.Views.{TextView, no_length, too_long_there, no_contents, no_padding, is_whole, text_view}
 use Rattle.layouts.proofs.Placed.{never_both}
 use Rattle.pieces.specs.declared.Verdict.{Verdict}
 use Rattle.pieces.specs.declared.Verdict.TheVariants as W
@@ -52,7 +52,7 @@ module _ (s : List ℕ) where
       → judge_of s slots room blank (after_text t kept (λ a. end a)) ≡ with_slots full (span_of s kept t)
   unfolding span_of half_taken after_text judge_of text_taken entered
   judged_by slots room b full (no_length h) q f = refl
-  judged_by slots room b full (too_long h l) q f = refl
+  judged_by slots room b full (too_long_there h l) q f = refl
   judged_by slots room b full (no_contents h l c) q f = refl
   judged_by slots room true full (no_padding h l c) q f = rw q
   judged_by slots room false full (no_padding h l c) q f = rw q
@@ -68,7 +68,7 @@ module _ (s : List ℕ) where
       → entries_of (after_text t kept (λ a. end a)) ≡ start ∷ len ∷ []
   unfolding span_of half_taken after_text entries_of
   entries_by b start len next (no_length h) q e = absurd (never_both e)
-  entries_by b start len next (too_long h l) q e = absurd (never_both e)
+  entries_by b start len next (too_long_there h l) q e = absurd (never_both e)
   entries_by b start len next (no_contents h l c) q e = absurd (never_both e)
   entries_by true start len next (no_padding h l c) q e = absurd (never_both (rw q at e))
   entries_by false start len next (no_padding h l c) q e = absurd (never_both (rw q at e))
@@ -81,7 +81,7 @@ module _ (s : List ℕ) where
     where
       by : {t : Text} → TextView (length s) (number_at s 0) 0 t → payload_of s (after_text t kept (λ a. end a)) ≡ []
       by (no_length h) = refl
-      by (too_long h l) = refl
+      by (too_long_there h l) = refl
       by (no_contents h l c) = refl
       by (no_padding h l c) = refl
       by (is_whole h l) = refl

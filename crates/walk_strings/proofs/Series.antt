@@ -13,7 +13,7 @@ use Rattle.layouts.specs.Refusal.{plain}
 use Rattle.layouts.specs.Shape.{Role, Tree, say, strings, units}
 use Rattle.layouts.specs.Pieces.{Pieces, Text, whole, cut, bad, text_of, after_text, run, skip_of}
 use Rattle.layouts.specs.Calls.{peek_number}
-use Rattle.layouts.proofs.Views.{TextView, no_length, too_long, no_contents, no_padding, is_whole, text_view}
+use Rattle.layouts.proofs.Views.{TextView, no_length, too_long_there, no_contents, no_padding, is_whole, text_view}
 use Rattle.numbers.specs.declared.Number.{Number}
 use Rattle.numbers.specs.declared.Number.TheVariants.{Value}
 use Rattle.pieces.specs.declared.Text as T
@@ -84,7 +84,7 @@ StrideOf at (bad which place) = Unit {0}
 
 stride_says : {size n at : ℕ} {m : Text} → TextView size n at m → StrideOf at m
 stride_says (no_length h) = tt
-stride_says (too_long h l) = tt
+stride_says (too_long_there h l) = tt
 stride_says (no_contents h l c) = tt
 stride_says (no_padding h l c) = tt
 stride_says {size} {n} {at} (is_whole h l) = λ long. (l, omega arith)

@@ -16,7 +16,7 @@ use Rattle.layouts.specs.Judge.{Ended, judge_of, not_text, text_taken, half_take
 use Rattle.layouts.specs.Soft.{kept_of}
 use Rattle.layouts.specs.Calls.{field, peek_number, read_string_set, skip_string_set}
 use Rattle.layouts.proofs.Steps.{ask_short, ask_value}
-use Rattle.layouts.proofs.Views.{TextView, no_length, too_long, no_contents, no_padding, is_whole, text_view}
+use Rattle.layouts.proofs.Views.{TextView, no_length, too_long_there, no_contents, no_padding, is_whole, text_view}
 use Rattle.layouts.proofs.Placed.{never_both}
 use Rattle.layouts.specs.Demands.{Read}
 use Rattle.layouts.proofs.Judge.{judge_read, record_room, entries_length}
@@ -52,7 +52,7 @@ module _ {size n at : ℕ} (j e : ℕ) (k : ℕ → Pieces) (h : (a : ℕ) → s
   kept_by : {t : Text} → TextView size n at t → skip_of (after_text t kept k) ≡ ok e → kept_of (after_text t kept k) ≡ suc j
   unfolding after_text skip_of kept_of
   kept_by (no_length g) q = absurd (never_both q)
-  kept_by (too_long g l) q = absurd (never_both q)
+  kept_by (too_long_there g l) q = absurd (never_both q)
   kept_by (no_contents g l c) q = absurd (never_both q)
   kept_by (no_padding g l c) q = absurd (never_both q)
   kept_by (is_whole g l) q = let i = h _ q in omega arith
@@ -149,7 +149,7 @@ module _ (s : List ℕ) (x : Record) where
       → judge_of s 0 0 x (after_text t passed k) ≡ to_end (skip_of (after_text t passed k))
   unfolding not_text half_taken text_taken after_text judge_of skip_of entered
   pass_by k (no_length h) g = refl
-  pass_by k (too_long h l) g = refl
+  pass_by k (too_long_there h l) g = refl
   pass_by k (no_contents h l c) g = refl
   pass_by k (no_padding h l c) g = refl
   pass_by k (is_whole h l) g = g _

@@ -12,7 +12,7 @@ use Rattle.layouts.specs.Pieces.{Text, after_text, run, end, skip_of}
 use Rattle.layouts.specs.Record.{blank}
 use Rattle.layouts.specs.Judge.{not_text, text_taken, half_taken, judge_of}
 use Rattle.layouts.specs.Calls.{skip_string}
-use Rattle.layouts.proofs.Views.{TextView, no_length, too_long, no_contents, no_padding, is_whole, text_view}
+use Rattle.layouts.proofs.Views.{TextView, no_length, too_long_there, no_contents, no_padding, is_whole, text_view}
 use Rattle.pieces.specs.Pieces.{Span, span, span_of, string_at}
 use Rattle.pieces.proofs.Fields.{field_string}
 use Rattle.pieces.proofs.Numbers.{as_told}
@@ -26,7 +26,7 @@ module _ (s : List ℕ) (at : ℕ) where
       → span_of s passed t ≡ onward (skip_of (after_text t passed (λ a. end a))) (λ e. ok (span (at + 8) (number_at s at) e))
   unfolding span_of half_taken not_text after_text skip_of
   bytes_by_lem (no_length h) = refl
-  bytes_by_lem (too_long h l) = refl
+  bytes_by_lem (too_long_there h l) = refl
   bytes_by_lem (no_contents h l c) = refl
   bytes_by_lem (no_padding h l c) = refl
   bytes_by_lem (is_whole h l) = refl
@@ -39,7 +39,7 @@ module _ (s : List ℕ) (at : ℕ) where
       → span_of s kept t ≡ onward (judge_of s 1 0 blank (after_text t kept (λ a. end a))) (λ e. ok (span (at + 8) (number_at s at) e.ends))
   unfolding span_of half_taken after_text judge_of text_taken
   text_by b (no_length h) q = refl
-  text_by b (too_long h l) q = refl
+  text_by b (too_long_there h l) q = refl
   text_by b (no_contents h l c) q = refl
   text_by true (no_padding h l c) q = rw q
   text_by false (no_padding h l c) q = rw q

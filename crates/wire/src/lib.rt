@@ -14,7 +14,7 @@ use pieces::Verdict;
 use walk_strings::Passed;
 use walk_take::Series;
 
-#[derive(Drop)]
+#[derive(Clone, Copy)]
 pub struct Cursor {
     pub at: usize,
 }

@@ -1,5 +1,6 @@
 -- `codes::StderrCode::from_u64` meets its contract.
 use mathlib.Core.Path.{sym}
+use native.Mathlib.Omega.{arith}
 use Rattle.codes.specs.declared.StderrCode.TheVariants.{Next, Read, Write, Last, Error, StartActivity, StopActivity, Result}
 use Rattle.codes.proofs.Messages.{code_of_lem, code_none, others}
 use Rattle.codes.proofs.StderrCode.from_u64.Goals as goal
@@ -29,4 +30,4 @@ pub returns-in-1381190740 : goal.returns-in-1381190740
 returns-in-1381190740 c = code_of_lem Result _ c.in-1381190740.is
 
 pub returns-in_default : goal.returns-in_default
-returns-in_default c = sym (code_none _ (others _ ((((((((tt, c.in_default.not-1869376871), c.in_default.not-1684108385), c.in_default.not-1684108310), c.in_default.not-1634497651), c.in_default.not-1668838512), c.in_default.not-1398035028), c.in_default.not-1398034256), c.in_default.not-1381190740)))
+returns-in_default c = sym (code_none _ (others _ ((((((((tt, λ e. omega arith), λ e. omega arith), λ e. omega arith), λ e. omega arith), λ e. omega arith), λ e. omega arith), λ e. omega arith), λ e. omega arith)))
