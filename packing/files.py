@@ -1,5 +1,4 @@
 """The files that have the packed tables: their texts, with the tables in place of the words that have a `$`."""
-import collections
 import string
 
 from packing.layouts import ANSWERS, FIRST_CODE, LAYOUTS, all_kinds, constant, just_number, kind_name, shape_of
@@ -73,10 +72,7 @@ use Rattle.table.proofs.Tables.{entry, missed, get_d_past}
 use Rattle.table.specs.Packed.{size, packed_list}
 use Rattle.table_code.proofs.packed.code.Goals as goal
 
-$arms
-
-pub returns-in_default : goal.returns-in_default
-returns-in_default c = let i = c.args.i in let past : $size ≤ i = omega arith in get_d_past packed_list i 0 past
+$answers
 """
 
 PLACES = """// $made: where the groups of each layout begin.
@@ -157,21 +153,15 @@ $published
 """
 
 ROW_CODES_PROOF = """-- $made: `$mode` arm by arm, and $last.
-use Rattle.table_operations.proofs.rows.$mode.Statement.{statement}
-use Rattle.table_operations.proofs.rows.$mode.Tie as tie
 use mathlib.Core.Path.{refl}
 use Rattle.layouts.specs.declared.Mode.TheVariants.{$variant}
 use Rattle.table.specs.Table.{find_in, row_for}
 use Rattle.table_operations.specs.Rows.{row_of}
 use Rattle.table_operations.proofs.Search.{arm, $law}
+use native.Mathlib.Omega.{arith}
+use Rattle.table_operations.proofs.rows.$mode.Goals as goal
 
-pub $mode-spec : {M : Type 1} → statement M
-unfolding row_of row_for find_in
-$mode-spec =
-    tie.close
-    (tie.spec
-$calls$arms
-    $answer)
+$answers
 """
 
 KIND_CODES = """// $made: the kind that a code stands for. Only a code that a version or a flag decides is not its own kind.
@@ -193,25 +183,29 @@ $arms
 
 KIND_CODES_PROOF = """-- $made: `decided` way by way, and in the last arm the code is none of the list.
 use borrow.Author.Rules.{rules}
-use Rattle.table_operations.proofs.decided.decided.Statement.{statement}
-use Rattle.table_operations.proofs.decided.decided.Tie as tie
 use Rattle.table.specs.Table.{numbered_of}
 use Rattle.table_operations.proofs.Itself.{itself}
+use native.Mathlib.Omega.{arith}
+use Rattle.table_operations.proofs.decided.decided.Goals as goal
 
-pub decided-spec : {M : Type 1} → statement M
-unfolding numbered_of
-decided-spec =
-    tie.close
-    (tie.spec
-$calls
-$arms
-    (λ c. itself _ _ _ c.match.rest))
+$answers
 """
 
 
 def filled(text, **parts):
     parts = {name: part if isinstance(part, str) else "\n".join(part) for name, part in parts.items()}
     return string.Template(text).substitute(parts, made=MADE)
+
+
+def answered(answers, opened=()):
+    """What is written of each goal, by its name: the answer, as a function of what is known there. Names in `opened` are unfolded."""
+    unfolding = f"unfolding {' '.join(opened)}\n" if opened else ""
+    return "\n\n".join(f"pub {goal} : goal.{goal}\n{unfolding}{goal} c = {answer}" for goal, answer in answers)
+
+
+def missed(count):
+    """In the last arm: what is matched is none of that many numbers."""
+    return "(" * count + "tt" + ", λ e. omega arith)" * count
 
 
 # ---- groups and fields
@@ -247,8 +241,9 @@ def codes(sequences):
 
 
 def codes_proof(sequences):
-    arms = (f"pub returns-in-{i} : goal.returns-in-{i}\nreturns-in-{i} c = entry packed_list c.in-{i}.is" for i, _ in enumerate(sequences.numbers))
-    return filled(CODES_PROOF, arms="\n\n".join(arms), size=str(len(sequences.numbers)))
+    size = len(sequences.numbers)
+    last = f"let i = c.args.i in let past : {size} ≤ i = omega arith in get_d_past packed_list i 0 past"
+    return filled(CODES_PROOF, answers=answered([*((f"returns-in-{i}", f"entry packed_list c.in-{i}.is") for i in range(size)), ("returns-in_default", last)]))
 
 
 # ---- constants and rows
@@ -287,19 +282,20 @@ def row_codes(t):
     return filled(ROW_CODES, arms=arms, published=published)
 
 
-def row_codes_proof(t, own, mode, **words):
+def row_codes_proof(t, own, mode, before, last_answer, **words):
     variant = mode.capitalize()
-    arms = (f"    (λ c. arm {variant} {t.row_code(row)} c.match.keys{i} refl)" for i, row in enumerate(own, 1))
-    return filled(ROW_CODES_PROOF, mode=mode, variant=variant, arms=arms, **words)
+    arms = ((f"returns-in-{row['code']}", f"arm {variant} {t.row_code(row)} c.in-{row['code']}.is refl") for row in own)
+    answers = answered([*before, *arms, ("returns-in_default", last_answer)], ("row_of", "row_for", "find_in"))
+    return filled(ROW_CODES_PROOF, mode=mode, variant=variant, answers=answers, **words)
 
 
 def ported_proof(t):
-    return row_codes_proof(t, t.rows, mode="ported", law="none", last="no row has another number", calls="", answer="(λ c. none _ c.match.rest)")
+    return row_codes_proof(t, t.rows, "ported", [], f"none c.args.op {missed(len(t.rows))}", law="none", last="no row has another number")
 
 
 def published_proof(t):
-    answer = "(λ c. others _ c.ported.result c.before.match.rest c.ported.ensures)"
-    return row_codes_proof(t, t.published, mode="published", law="others", last="with another number the other rows decide", calls="    (λ c κs. tt)\n", answer=answer)
+    answer = f"others _ c.ported.result {missed(len(t.published))} c.ported.ensures"
+    return row_codes_proof(t, t.published, "published", [("ported-requires", "tt")], answer, law="others", last="with another number the other rows decide")
 
 
 # ---- kinds that a version or a flag decides
@@ -340,29 +336,31 @@ def kind_codes(t):
     return filled(KIND_CODES, arms=arms)
 
 
-def said(kind, count):
-    """The facts that the calls of a decision leave, in the order in which they are made. A function's calls are told apart by a number, from the second on."""
+def calls_in(kind, code, taken):
+    """The calls of a decision, in the order in which they are made: the function, and what Rattle puts behind its name to tell its calls apart.
+
+    That is nothing at the first call of all; then the arm in which it stands, and from the second there on a number besides.
+    """
     if kind.name == "just":
         return []
     function, _, yes, no = parted(kind)
-    inner = said(yes, count) + said(no, count)
-    count[function] += 1
-    return [*inner, f"{function}{count[function] if count[function] > 1 else ''}.ensures"]
+    inner = calls_in(yes, code, taken) + calls_in(no, code, taken)
+    ends = ["", f"-in-{code}", *(f"-in-{code}-{i}" for i in range(2, 9))]
+    call = next((function, end) for end in ends if (function, end) not in taken)
+    taken.add(call)
+    return [*inner, call]
 
 
 def kind_codes_proof(t):
-    count, calls, arms = collections.Counter(), [], []
-    for i, kind in enumerate(t.kinds, 1):
-        facts = said(kind, count)
-        calls += ["    (λ c κs. search rules)" for _ in facts]
-        # each fact is a place behind the one that came after it; one that is further back is named
-        places = [(fact.split(".")[0], "After-", fact) for fact in reversed(facts)] + [(f"match-keys{i}", "At-", f"match.keys{i}")]
-        paths = [f"c{'.before' * k}.{fact}" if k < 2 else f"at-{name}.{fact}" for k, (name, _, fact) in enumerate(places)]
-        far = [(f"at-{name}", f"tie.{sort}{name}") for name, sort, _ in reversed(places[2:])]
-        names = ", ".join(name for name, _ in far)
-        bound = f"let {names if len(far) == 1 else f'({names})'} : {' × '.join(sort for _, sort in far)} = search in " if far else ""
-        arms.append(f"    (λ c. {bound}rw ({', '.join([paths[-1], *paths[:-1]])}))")
-    return filled(KIND_CODES_PROOF, calls=calls, arms=arms)
+    taken, called, arms = set(), [], []
+    for kind in t.kinds:
+        code = t.kind_code(kind)
+        calls = calls_in(kind, code, taken)
+        called += [(f"{function}-requires{end}", "search rules") for function, end in calls]
+        facts = [f"c.in-{code}.is", *(f"c.{function}{end}.ensures" for function, end in reversed(calls))]
+        arms.append((f"returns-in-{code}", f"rw ({', '.join(facts)})"))
+    last = ("returns-in_default", f"itself _ _ _ {missed(len(t.kinds))}")
+    return filled(KIND_CODES_PROOF, answers=answered([*called, *arms, last], ["numbered_of"]))
 
 
 def files(t):
@@ -374,8 +372,8 @@ def files(t):
         "crates/table_code/proofs/packed/code/Answers.antt": codes_proof(t.packed),
         "crates/table_code/src/operations.rt": operations(t),
         "crates/table_operations/src/rows.rt": row_codes(t),
-        "crates/table_operations/proofs/rows/ported/Proof.antt": ported_proof(t),
-        "crates/table_operations/proofs/rows/published/Proof.antt": published_proof(t),
+        "crates/table_operations/proofs/rows/ported/Answers.antt": ported_proof(t),
+        "crates/table_operations/proofs/rows/published/Answers.antt": published_proof(t),
         "crates/table_operations/src/decided.rt": kind_codes(t),
-        "crates/table_operations/proofs/decided/decided/Proof.antt": kind_codes_proof(t),
+        "crates/table_operations/proofs/decided/decided/Answers.antt": kind_codes_proof(t),
     }
