@@ -26,7 +26,7 @@ class Con(collections.namedtuple("Con", "name args")):
 
 
 # These definitions stay as they stand: the claims speak of what a layout or a kind is made of, and not of what becomes of it.
-SHUT = {"layout", "argumentsNumber", "replyNumber", "skippedNumber"}
+SHUT = {"layout", "arguments_number", "reply_number", "skipped_number"}
 
 
 class Fault(Exception):
@@ -77,7 +77,7 @@ class Parser:
     def application(self):
         term = self.atom()
         while self.peek() not in (None, ")", "}", ";", "∷", "++"):
-            term = Field(term, self.take()[1:]) if self.peek().startswith(".") else Apply(term, self.atom())
+            term = Apply(term, self.atom())
         return term
 
     def atom(self):
@@ -85,6 +85,9 @@ class Parser:
         if word == "(":
             term = self.term()
             self.take(")")
+            # a field is asked of what stands right before its dot
+            while (self.peek() or "").startswith("."):
+                term = Field(term, self.take()[1:])
             return term
         if word == "record":
             return self.fields()
@@ -129,6 +132,12 @@ def apply(function, value):
     return function.call(*args) if len(args) == function.arity else function._replace(args=args)
 
 
+def field_of(value, name):
+    if not isinstance(value, dict) or name not in value:
+        raise Fault(f"the field '{name}' is asked of something that has none of that name")
+    return value[name]
+
+
 def truth(b):
     return Con("true" if b else "false", ())
 
@@ -156,6 +165,12 @@ def items_of(text):
             item.append(line)
     if item:
         yield item
+
+
+def file_of(module):
+    """The file of specs/ that a module is, or None: antt's own library, and what Rattle declares, have none here."""
+    path = re.fullmatch(r"Rattle\.(\w+)\.specs\.(\w+)", module)
+    return f"crates/{path[1]}/specs/{path[2]}.antt" if path and path[1] != "std" else None
 
 
 class Module:
@@ -189,8 +204,7 @@ class Module:
 
     def note_use(self, line):
         path, names, alias = re.fullmatch(r"use (.*?)(?:\.\{(.*)\}| as (\S+))?", line).groups()
-        file = re.fullmatch(r"Rattle·(\w+?)(?:·specs)?\.specs\.(\w+)", path)
-        path = f"crates/{file[1]}/specs/{file[2]}.antt" if file else None
+        path = file_of(path)
         if alias:
             self.aliases[alias] = path
         for name in (names or "").split(", "):
@@ -262,14 +276,15 @@ class Module:
         if isinstance(term, int):
             return term
         if isinstance(term, str):
-            return local[term] if term in local else self.value(term)
+            # behind a variable, a field; behind the name of a file, a definition
+            first, *fields = term.split(".")
+            if first in local:
+                return functools.reduce(field_of, fields, local[first])
+            return self.value(term)
         if isinstance(term, dict):
             return {name: self.compute(field, local) for name, field in term.items()}
         if isinstance(term, Field):
-            value = self.compute(term.term, local)
-            if not isinstance(value, dict) or term.name not in value:
-                raise Fault(f"the field '{term.name}' is asked of something that has none of that name")
-            return value[term.name]
+            return functools.reduce(field_of, term.name.split("."), self.compute(term.term, local))
         if isinstance(term, Apply):
             return apply(self.compute(term.function, local), self.compute(term.argument, local))
         left, right = self.compute(term.left, local), self.compute(term.right, local)

@@ -1,5 +1,4 @@
 """The files that have the packed tables: their texts, with the tables in place of the words that have a `$`."""
-import collections
 import string
 
 from packing.layouts import ANSWERS, FIRST_CODE, LAYOUTS, all_kinds, constant, just_number, kind_name, shape_of
@@ -7,23 +6,22 @@ from packing.layouts import ANSWERS, FIRST_CODE, LAYOUTS, all_kinds, constant, j
 MADE = "Made by ./tables from crates/layouts/specs and crates/table/specs/Claims.antt"
 
 PACKED = """-- $made: the packed tables of the code.
-use Prim.Native.Nat.{ℕ}
-use mathlib.Core.List.{List, [], _∷_}
-use Rattle·table·specs.specs.declared.Row.{Row}
-use Rattle·table·specs.specs.Numbered.{Numbered, just, byVersion, byFlag}
+use Rattle.std.specs.Prelude.{ℕ, List, [], ◌∷◌}
+use Rattle.table.specs.declared.Row.{Row}
+use Rattle.table.specs.Numbered.{Numbered, just, by_version, by_flag}
 
 abbrev pub size : ℕ
 size = $size
 
 -- the groups of the layouts, then their fields
-abbrev pub packedList : List ℕ
-packedList =
+abbrev pub packed_list : List ℕ
+packed_list =
 $packed
     []
 
 -- number; groups of arguments, skipped arguments, reply; the codes of their kinds
-abbrev op : (number arguments skipped reply argumentsKind skippedKind replyKind : ℕ) → Row
-op n a k r ak kk rk = record { number = n; arguments = a; skipped = k; reply = r; «arguments_kind» = ak; «skipped_kind» = kk; «reply_kind» = rk }
+abbrev op : (number arguments skipped reply arguments_kind skipped_kind reply_kind : ℕ) → Row
+op n a k r ak kk rk = record { number = n; arguments = a; skipped = k; reply = r; arguments_kind = ak; skipped_kind = kk; reply_kind = rk }
 
 abbrev pub rows : List Row
 rows =
@@ -31,8 +29,8 @@ $rows
     []
 
 -- those that published mode has in place of some
-abbrev pub publishedRows : List Row
-publishedRows =
+abbrev pub published_rows : List Row
+published_rows =
 $published
     []
 
@@ -40,26 +38,25 @@ $published
 $others
 
 -- the kinds that a version or a flag decides; their codes count from here on
-abbrev pub firstCode : ℕ
-firstCode = $first_code
+abbrev pub first_code : ℕ
+first_code = $first_code
 
-abbrev pub kindList : List Numbered
-kindList =
+abbrev pub kind_list : List Numbered
+kind_list =
 $kinds
     []
 
 -- the list under a name that stays shut
-unfoldable pub packedTable : List ℕ
-packedTable = packedList
+unfoldable pub packed_table : List ℕ
+packed_table = packed_list
 """
 
 CODES = """// $made: the groups of the layouts and then their fields, packed. A match becomes one load.
-ghost use mathlib.Core.Path.{_≡_};
-ghost use lib.ListN.{getD};
-ghost use Rattle·table.specs.Packed.{packedList};
+ghost use Rattle.std.specs.Prelude.{◌≡◌, get_or};
+ghost use Rattle.table.specs.Packed.{packed_list};
 
 pub fn code(i: usize) -> u64
-    ensures { λ r. ⌜ r ≡ getD packedList i 0 ⌝ }
+    ensures { result ≡ get_or packed_list i 0 }
 {
     match i {
 $arms
@@ -69,17 +66,13 @@ $arms
 """
 
 CODES_PROOF = """-- $made: an arm of `code` is an entry of the list, and the last arm lies past its end.
-use Rattle·table_code·proofs.proofs.packed.code.Statement.{statement}
-use Rattle·table_code·proofs.proofs.packed.code.Tie as tie
-use Rattle·table.proofs.Tables.{entry, missed, getD-past}
-use Rattle·table.specs.Packed.{size, packedList}
+use Prim.Native.Nat.{◌≤◌}
+use native.Mathlib.Omega.{arith}
+use Rattle.table.proofs.Tables.{entry, missed, get_d_past}
+use Rattle.table.specs.Packed.{size, packed_list}
+use Rattle.table_code.proofs.packed.code.Goals as goal
 
-pub code-spec : {M : Type 1} → statement M
-code-spec =
-    tie.close
-    (tie.spec
-$arms
-    (λ c. let i = c .before .args .i in getD-past packedList i 0 (missed size i (c .match .rest))))
+$answers
 """
 
 PLACES = """// $made: where the groups of each layout begin.
@@ -108,9 +101,7 @@ $codes
 """
 
 OPERATIONS = """// $made: the operations as one constant table, and those that published mode has in place of some.
-use table::Row;
-use table::kinds as kind;
-use table::places as layout;
+use table::{Row, kinds as kind, places as layout};
 
 pub const COUNT: usize = $count;
 
@@ -137,13 +128,13 @@ ROW = """    // $number. Arguments: $arguments_shape. Reply: $reply_shape
     },"""
 
 ROW_CODES = """// $made: the rows of the operations, by number. A match becomes one load.
-ghost use Rattle·table_operations·specs.specs.Rows.{rowOf};
-ghost use Rattle·table.specs.Table.{rowFor};
-ghost use Rattle·layouts.specs.declared.Mode.the-variants.{Ported, Published};
-ghost use mathlib.Core.Path.{_≡_};
+ghost use Rattle.table_operations.specs.Rows.{row_of};
+ghost use Rattle.table.specs.Table.{row_for};
+ghost use Rattle.layouts.specs.declared.Mode.TheVariants.{Ported, Published};
+ghost use Rattle.std.specs.Prelude.{◌≡◌};
 
 pub fn ported(op: u64) -> u64
-    ensures { λ r. ⌜ rowOf op r ≡ rowFor Ported op ⌝ }
+    ensures { row_of op result ≡ row_for Ported op }
 {
     match op {
 $arms
@@ -152,7 +143,7 @@ $arms
 }
 
 pub fn published(op: u64) -> u64
-    ensures { λ r. ⌜ rowOf op r ≡ rowFor Published op ⌝ }
+    ensures { row_of op result ≡ row_for Published op }
 {
     match op {
 $published
@@ -162,32 +153,26 @@ $published
 """
 
 ROW_CODES_PROOF = """-- $made: `$mode` arm by arm, and $last.
-use Rattle·table_operations·proofs.proofs.rows.$mode.Statement.{statement}
-use Rattle·table_operations·proofs.proofs.rows.$mode.Tie as tie
 use mathlib.Core.Path.{refl}
-use Rattle·layouts.specs.declared.Mode.the-variants.{$variant}
-use Rattle·table.specs.Table.{findIn, rowFor}
-use Rattle·table_operations·specs.specs.Rows.{rowOf}
-use Rattle·table_operations·proofs.proofs.Search.{arm, $law}
+use Rattle.layouts.specs.declared.Mode.TheVariants.{$variant}
+use Rattle.table.specs.Table.{find_in, row_for}
+use Rattle.table_operations.specs.Rows.{row_of}
+use Rattle.table_operations.proofs.Search.{arm, $law}
+use native.Mathlib.Omega.{arith}
+use Rattle.table_operations.proofs.rows.$mode.Goals as goal
 
-pub $mode-spec : {M : Type 1} → statement M
-unfolding rowOf rowFor findIn
-$mode-spec =
-    tie.close
-    (tie.spec
-$calls$arms
-    $answer)
+$answers
 """
 
 KIND_CODES = """// $made: the kind that a code stands for. Only a code that a version or a flag decides is not its own kind.
-ghost use Rattle·table.specs.Table.{versionIn, kindNumbered};
-ghost use mathlib.Core.Path.{_≡_};
-use crate::either;
-use crate::since;
+ghost use Rattle.table.specs.Table.{version_in, kind_numbered};
+ghost use Rattle.std.specs.Prelude.{◌≡◌};
+
+use crate::{either, since};
 use table::kinds as kind;
 
 pub fn decided(code: u8, spoken: u64, present: bool) -> u8
-    ensures { λ r. ⌜ r ≡ kindNumbered (versionIn spoken) present code ⌝ }
+    ensures { result ≡ kind_numbered (version_in spoken) present code }
 {
     match code {
 $arms
@@ -197,26 +182,30 @@ $arms
 """
 
 KIND_CODES_PROOF = """-- $made: `decided` way by way, and in the last arm the code is none of the list.
-use borrow.Author.Needs.{needs}
-use Rattle·table_operations·proofs.proofs.decided.decided.Statement.{statement}
-use Rattle·table_operations·proofs.proofs.decided.decided.Tie as tie
-use Rattle·table.specs.Table.{numberedOf}
-use Rattle·table_operations·proofs.proofs.Itself.{itself}
+use borrow.Author.Rules.{rules}
+use Rattle.table.specs.Table.{numbered_of}
+use Rattle.table_operations.proofs.Itself.{itself}
+use native.Mathlib.Omega.{arith}
+use Rattle.table_operations.proofs.decided.decided.Goals as goal
 
-pub decided-spec : {M : Type 1} → statement M
-unfolding numberedOf
-decided-spec =
-    tie.close
-    (tie.spec
-$calls
-$arms
-    (λ c. itself _ _ _ (c .match .rest)))
+$answers
 """
 
 
 def filled(text, **parts):
     parts = {name: part if isinstance(part, str) else "\n".join(part) for name, part in parts.items()}
     return string.Template(text).substitute(parts, made=MADE)
+
+
+def answered(answers, opened=()):
+    """What is written of each goal, by its name: the answer, as a function of what is known there. Names in `opened` are unfolded."""
+    unfolding = f"unfolding {' '.join(opened)}\n" if opened else ""
+    return "\n\n".join(f"pub {goal} : goal.{goal}\n{unfolding}{goal} c = {answer}" for goal, answer in answers)
+
+
+def missed(count):
+    """In the last arm: what is matched is none of that many numbers."""
+    return "(" * count + "tt" + ", λ e. omega arith)" * count
 
 
 # ---- groups and fields
@@ -252,7 +241,9 @@ def codes(sequences):
 
 
 def codes_proof(sequences):
-    return filled(CODES_PROOF, arms=(f"    (λ c. entry packedList (c .match .keys{i}))" for i, _ in enumerate(sequences.numbers, 1)))
+    size = len(sequences.numbers)
+    last = f"let i = c.args.i in let past : {size} ≤ i = omega arith in get_d_past packed_list i 0 past"
+    return filled(CODES_PROOF, answers=answered([*((f"returns-in-{i}", f"entry packed_list c.in-{i}.is") for i in range(size)), ("returns-in_default", last)]))
 
 
 # ---- constants and rows
@@ -291,19 +282,20 @@ def row_codes(t):
     return filled(ROW_CODES, arms=arms, published=published)
 
 
-def row_codes_proof(t, own, mode, **words):
+def row_codes_proof(t, own, mode, before, last_answer, **words):
     variant = mode.capitalize()
-    arms = (f"    (λ c. arm {variant} {t.row_code(row)} (c .match .keys{i}) refl)" for i, row in enumerate(own, 1))
-    return filled(ROW_CODES_PROOF, mode=mode, variant=variant, arms=arms, **words)
+    arms = ((f"returns-in-{row['code']}", f"arm {variant} {t.row_code(row)} c.in-{row['code']}.is refl") for row in own)
+    answers = answered([*before, *arms, ("returns-in_default", last_answer)], ("row_of", "row_for", "find_in"))
+    return filled(ROW_CODES_PROOF, mode=mode, variant=variant, answers=answers, **words)
 
 
 def ported_proof(t):
-    return row_codes_proof(t, t.rows, mode="ported", law="none", last="no row has another number", calls="", answer="(λ c. none _ (c .match .rest))")
+    return row_codes_proof(t, t.rows, "ported", [], f"none c.args.op {missed(len(t.rows))}", law="none", last="no row has another number")
 
 
 def published_proof(t):
-    answer = "(λ c. others _ (c .ported .result) (c .before .match .rest) (c .ported .ensures))"
-    return row_codes_proof(t, t.published, mode="published", law="others", last="with another number the other rows decide", calls="    (λ c κs. tt)\n", answer=answer)
+    answer = f"others _ c.ported.result {missed(len(t.published))} c.ported.ensures"
+    return row_codes_proof(t, t.published, "published", [("ported-requires", "tt")], answer, law="others", last="with another number the other rows decide")
 
 
 # ---- kinds that a version or a flag decides
@@ -344,29 +336,31 @@ def kind_codes(t):
     return filled(KIND_CODES, arms=arms)
 
 
-def said(kind, count):
-    """The facts that the calls of a decision leave, in the order in which they are made. A function's calls are told apart by a number, from the second on."""
+def calls_in(kind, code, taken):
+    """The calls of a decision, in the order in which they are made: the function, and what Rattle puts behind its name to tell its calls apart.
+
+    That is nothing at the first call of all; then the arm in which it stands, and from the second there on a number besides.
+    """
     if kind.name == "just":
         return []
     function, _, yes, no = parted(kind)
-    inner = said(yes, count) + said(no, count)
-    count[function] += 1
-    return [*inner, f"{function}{count[function] if count[function] > 1 else ''} .ensures"]
+    inner = calls_in(yes, code, taken) + calls_in(no, code, taken)
+    ends = ["", f"-in-{code}", *(f"-in-{code}-{i}" for i in range(2, 9))]
+    call = next((function, end) for end in ends if (function, end) not in taken)
+    taken.add(call)
+    return [*inner, call]
 
 
 def kind_codes_proof(t):
-    count, calls, arms = collections.Counter(), [], []
-    for i, kind in enumerate(t.kinds, 1):
-        facts = said(kind, count)
-        calls += ["    (λ c κs. search needs)" for _ in facts]
-        # each fact is a place behind the one that came after it; one that is further back is named
-        places = [(fact.split(" ")[0], "After-", fact) for fact in reversed(facts)] + [(f"match-keys{i}", "At-", f"match .keys{i}")]
-        paths = [f"c{' .before' * k} .{fact}" if k < 2 else f"at-{name} .{fact}" for k, (name, _, fact) in enumerate(places)]
-        far = [(f"at-{name}", f"tie.{sort}{name}") for name, sort, _ in reversed(places[2:])]
-        names = ", ".join(name for name, _ in far)
-        bound = f"let {names if len(far) == 1 else f'({names})'} : {' × '.join(sort for _, sort in far)} = search in " if far else ""
-        arms.append(f"    (λ c. {bound}rw ({', '.join([paths[-1], *paths[:-1]])}))")
-    return filled(KIND_CODES_PROOF, calls=calls, arms=arms)
+    taken, called, arms = set(), [], []
+    for kind in t.kinds:
+        code = t.kind_code(kind)
+        calls = calls_in(kind, code, taken)
+        called += [(f"{function}-requires{end}", "search rules") for function, end in calls]
+        facts = [f"c.in-{code}.is", *(f"c.{function}{end}.ensures" for function, end in reversed(calls))]
+        arms.append((f"returns-in-{code}", f"rw ({', '.join(facts)})"))
+    last = ("returns-in_default", f"itself _ _ _ {missed(len(t.kinds))}")
+    return filled(KIND_CODES_PROOF, answers=answered([*called, *arms, last], ["numbered_of"]))
 
 
 def files(t):
@@ -375,11 +369,11 @@ def files(t):
         "crates/table/src/places.rt": places(t),
         "crates/table/src/kinds.rt": kinds(t),
         "crates/table_code/src/packed.rt": codes(t.packed),
-        "crates/table_code/proofs/packed/code/Proof.antt": codes_proof(t.packed),
+        "crates/table_code/proofs/packed/code/Answers.antt": codes_proof(t.packed),
         "crates/table_code/src/operations.rt": operations(t),
         "crates/table_operations/src/rows.rt": row_codes(t),
-        "crates/table_operations/proofs/rows/ported/Proof.antt": ported_proof(t),
-        "crates/table_operations/proofs/rows/published/Proof.antt": published_proof(t),
+        "crates/table_operations/proofs/rows/ported/Answers.antt": ported_proof(t),
+        "crates/table_operations/proofs/rows/published/Answers.antt": published_proof(t),
         "crates/table_operations/src/decided.rt": kind_codes(t),
-        "crates/table_operations/proofs/decided/decided/Proof.antt": kind_codes_proof(t),
+        "crates/table_operations/proofs/decided/decided/Answers.antt": kind_codes_proof(t),
     }

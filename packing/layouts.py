@@ -9,10 +9,10 @@ OPERATIONS = "crates/layouts/specs/Operations.antt"
 
 # the columns of a row: the claim's names and the struct's
 LAYOUTS = {"arguments": "arguments", "skips": "skipped", "reply": "reply"}
-ANSWERS = {"argumentsKind": "arguments_kind", "skippedKind": "skipped_kind", "replyKind": "reply_kind"}
+ANSWERS = {"arguments_kind": "arguments_kind", "skipped_kind": "skipped_kind", "reply_kind": "reply_kind"}
 
 # the types of kinds, each with the definition of its numbers; and what an answer has that is of no kind
-NUMBERINGS = {"ArgumentsKind": "argumentsNumber", "ReplyKind": "replyNumber", "SkippedKind": "skippedNumber"}
+NUMBERINGS = {"ArgumentsKind": "arguments_number", "ReplyKind": "reply_number", "SkippedKind": "skipped_number"}
 NONE = "NONE"
 
 
@@ -20,7 +20,7 @@ NONE = "NONE"
 
 
 def rows_wanted(claim):
-    """The right side of `rows-say` or `published-say`."""
+    """The right side of `rows_say` or `published_say`."""
     claims = load(CLAIMS)
     rows = claims.compute(sides(claims.types[claim])[1], {})
     numbers = [row["code"] for row in rows]
@@ -30,9 +30,9 @@ def rows_wanted(claim):
 
 
 def named_place(side, value):
-    """The name in `groupsAt name`, somewhere in a side of a claim, and the groups that the other side has there."""
+    """The name in `groups_at name`, somewhere in a side of a claim, and the groups that the other side has there."""
     function, arguments = spine(side)
-    if function == "groupsAt":
+    if function == "groups_at":
         return arguments[0].split(".")[-1], value
     parts = zip(arguments, getattr(value, "args", ()))
     return next((found for side, value in parts if (found := named_place(side, value))), None)
@@ -46,7 +46,7 @@ def others_wanted():
         left, right = within(where, sides, words)
         found = named_place(right, within(where, claims.compute, left, {}))
         if not found or others.setdefault(*found) != found[1]:
-            raise Fault("it names no place by `groupsAt`, or one that has another layout", where)
+            raise Fault("it names no place by `groups_at`, or one that has another layout", where)
     return others
 
 
@@ -54,7 +54,7 @@ def others_wanted():
 
 
 def constant(name):
-    """aNumber becomes A_NUMBER."""
+    """a_number becomes A_NUMBER, and SinglePath SINGLE_PATH."""
     return re.sub(r"(?<=[a-z0-9])(?=[A-Z])", "_", name).upper()
 
 
@@ -109,8 +109,8 @@ def all_kinds():
 # document 01's letters, for comments
 LETTERS = {
     ("num", "dropped"): "n",
-    ("num", "asNumber"): "N",
-    ("num", "asFlag"): "flag",
+    ("num", "as_number"): "N",
+    ("num", "as_flag"): "flag",
     ("str", "passed"): "s",
     ("str", "checked"): "S without entry",
     ("str", "kept"): "S",
@@ -152,7 +152,7 @@ WHATS = {"num": 1, "str": 2, "set": 3, "pairs": 4, "framed": 5, "maybe": 6, "typ
 ROLES = {"passed": 0, "checked": 1, "kept": 2}
 GROUPS = {"once": 1, "opt": 2, "many": 3}
 # the first of them, and how many the record has
-TARGETS = {"dropped": (0, 1), "asNumber": (1, 12), "asFlag": (13, 12), "asCount": (25, 3), "asPresence": (28, 1)}
+TARGETS = {"dropped": (0, 1), "as_number": (1, 12), "as_flag": (13, 12), "as_count": (25, 3), "as_presence": (28, 1)}
 # from here on a number is no kind but the code of one that is decided
 FIRST_CODE = 32
 
@@ -206,7 +206,7 @@ GROUP_UNIT = 4 * 64
 
 class Tables:
     def __init__(self):
-        self.rows, self.published, self.others = rows_wanted("rows-say"), rows_wanted("published-say"), others_wanted()
+        self.rows, self.published, self.others = rows_wanted("rows_say"), rows_wanted("published_say"), others_wanted()
         self.names = layout_names(self.rows, self.published, self.others)
         every = [*self.rows, *self.published]
         layouts = [row[column] for row in every for column in LAYOUTS] + list(self.others.values())

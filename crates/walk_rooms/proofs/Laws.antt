@@ -82,17 +82,15 @@ module _ (c l : List ℕ) (i : ℕ) where
 part_tail : (out : List ℕ) (at : ℕ) → take (length out - at) (drop at out) ≡ drop at out
 part_tail out at = take_all (length out - at) (drop at out) (simp length-drop (omega arith))
 
--- bytes copied to the front of the part &mut out[at..], back in the whole
-pub part_back : (out c ys : List ℕ) (at n : ℕ) → n ≤ length c → at + n ≤ length out
-    → ys ≡ take (length (take (n - 0) (drop 0 c))) (take (n - 0) (drop 0 c)) ++ drop (length (take (n - 0) (drop 0 c))) (take (length out - at) (drop at out))
-    → take at out ++ (ys ++ drop (length out - at) (drop at out)) ≡ sets out at (take n c)
+-- bytes copied over the part &mut out[at..at + n], back in the whole
+pub part_back : (out c ys : List ℕ) (at n : ℕ) → n ≤ length c → at + n ≤ length out → ys ≡ take (n - 0) (drop 0 c)
+    → take at out ++ (ys ++ drop (at + n - at) (drop at out)) ≡ sets out at (take n c)
 part_back out c ys at n h g e =
     let k : n - 0 ≡ n = omega arith in
+    let m : at + n - at ≡ n = omega arith in
     let l : length (take n c) ≡ n = length-take-le n c h in
-    let b : length (drop at out) ≤ length out - at = simp length-drop (omega arith) in
-    let d : drop (length out - at) (drop at out) ≡ [] = drop_of_length-le (drop at out) b in
-    rw (d, append-nil, e, k, take-length (take n c), part_tail out at, drop-drop (length (take n c)) at out)
-    (sym (sets-eq (take n c) out at (omega arith) ∙ append_assoc (take at out) (take n c) _))
+    let room : at + length (take n c) ≤ length out = omega arith in
+    simp (e, k, m, drop-drop, sets-eq (take n c) out at room, l, append_assoc)
 
 -- an entry's sixteen bytes
 entry_bytes : (z e₁ e₂ : List ℕ) (start len : ℕ) → length z ≡ 16 → e₁ ≡ placed 0 (number_bytes start) z → e₂ ≡ placed 8 (number_bytes len) e₁ → e₂ ≡ bytes_of (start ∷ len ∷ [])

@@ -30,7 +30,7 @@ fn copy_front(out: &mut [u8], at: usize, c: &[u8], n: usize)
     requires { (n ≤ length c.now) × (at + n ≤ length out.old) }
     ensures { out.new ≡ sets out.old at (take n c.now) }
 {
-    bytes::copy(&c[0..n], &mut out[at..]);
+    out[at..at + n].copy_from_slice(&c[0..n]);
 }
 
 // Bytes, from where the last ones stopped.

@@ -65,10 +65,11 @@ pub put_back : (out vs ys : List ℕ) (at : ℕ) → at + length vs ≤ length o
     → take at out ++ (ys ++ drop (length out - at) (drop at out)) ≡ placed at vs out
 put_back out vs ys at h e = simp (part_none out at, append-nil, e, drop-drop, placed_fits at vs out h, sets-eq vs out at h, append_assoc)
 
-pub copied : (out c ys : List ℕ) (at : ℕ) → at + length c ≤ length out
-    → ys ≡ take (length c) c ++ drop (length c) (take (length out - at) (drop at out))
-    → take at out ++ (ys ++ drop (length out - at) (drop at out)) ≡ placed at c out
-copied out c ys at h e = put_back out c ys at h (e ∙ simp (take-length, part_tail))
+-- a part &mut out[at..at + length c] that comes back as c
+pub copied : (out c ys : List ℕ) (at : ℕ) → at + length c ≤ length out → ys ≡ c
+    → take at out ++ (ys ++ drop (at + length c - at) (drop at out)) ≡ placed at c out
+copied out c ys at h e =
+    let n : at + length c - at ≡ length c = omega arith in simp (n, e, drop-drop, placed_fits at c out h, sets-eq c out at h, append_assoc)
 
 pub numbered : (out ys : List ℕ) (at x : ℕ) → at + 8 ≤ length out
     → ys ≡ stored 8 x (take (length out - at) (drop at out))

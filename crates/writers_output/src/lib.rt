@@ -28,7 +28,7 @@ pub fn put(out: &mut [u8], at: usize, c: &[u8])
     ensures { out.new ≡ placed at c.now out.old }
 {
     if has_room(out.len(), at, c.len()) {
-        bytes::copy(c, &mut out[at..]);
+        out[at..at + c.len()].copy_from_slice(c);
         return;
     }
 }

@@ -1,0 +1,12 @@
+-- `walk_fill::fill` meets its contract: item by item.
+use Rattle.walk_items.specs.Items.{version_of, fuel_of}
+use Rattle.walk_fill.specs.There.{pieces_there}
+use Rattle.walk_fill.specs.Fill.{Fills, rooms}
+use Rattle.walk_fill.proofs.Folding.{to_come}
+use Rattle.walk_fill.proofs.fill.Given as goal
+
+abbrev pub invariant-loop-f : goal.invariant-loop-f
+invariant-loop-f l = Fills l.s (rooms l.initial.words l.word l.initial.bytes l.byte l.initial.payload 0) (pieces_there l.layout l.s l.from) (rooms l.words l.w l.bytes l.b l.payload l.p) (to_come l.s (version_of l.layout) l.at l.pc l.reps l.body l.group)
+
+abbrev pub decreases-loop-f : goal.decreases-loop-f
+decreases-loop-f l = fuel_of l.s l.at l.pc l.reps l.group

@@ -1,0 +1,12 @@
+-- `walk_strings::pass` meets its contract: skipping what is left of the series is skipping the whole.
+use Prim.Native.Nat.{◌-◌}
+use lib.ListN.{length}
+use Rattle.walk_strings.proofs.Series.{Passing}
+use Rattle.walk_strings.specs.Strings.{Strides}
+use Rattle.walk_strings.proofs.pass.Given as goal
+
+abbrev pub invariant-loop-pend : goal.invariant-loop-pend
+invariant-loop-pend l = Passing l.s l.extra l.from l.pend l.left l.at l.p l.l × Strides l.expected l.step
+
+abbrev pub decreases-loop-pend : goal.decreases-loop-pend
+decreases-loop-pend l = length l.s - l.at
