@@ -8,7 +8,7 @@ use lib.ListN.{length, drop, length-append}
 use contract.Lifetimes.{Lfts}
 use borrow.Fn.Kinds.{Dens, ended_of}
 use denote.Triple.Clauses.{AtExit}
-use denote.Ref.{Bor}
+use denote.Ref.{Bor, MutBor}
 use Rattle.layouts.specs.declared.Record.{Record}
 use Rattle.layouts.specs.declared.Refusal.{Refusal}
 use Rattle.layouts.specs.Primitive.{pick, Version, version, from_wire, Result, ok, refused, onward}
@@ -46,7 +46,7 @@ module _ {A : Type 0} where
   abbrev pub daemon_of : Streams A → List ℕ
   daemon_of a = a.1.0.now
 
-  abbrev pub entries_at : Streams (Bor (List ℕ) × A) → List ℕ
+  abbrev pub entries_at : Streams (MutBor (List ℕ) × A) → List ℕ
   entries_at a = a.1.1.0.now
 
   -- what is heard on both streams
@@ -54,7 +54,7 @@ module _ {A : Type 0} where
   heard_in a = hear handshake (client_of a) (daemon_of a) 0 0 blank
 
 module _ {A B C : Type 0} where
-  abbrev pub entries_after : A × (B × (Bor (List ℕ) × C)) → List ℕ
+  abbrev pub entries_after : A × (B × (MutBor (List ℕ) × C)) → List ℕ
   entries_after x = x.1.1.0.now
 
 -- ---- those of `parse_daemon_handshake`: the client's version, the daemon's stream, the room
@@ -68,14 +68,14 @@ module _ {A : Type 0} where
   abbrev pub stream_of : Alone A → List ℕ
   stream_of a = a.1.1.0.now
 
-  abbrev pub room_at : Alone (Bor (List ℕ) × A) → List ℕ
+  abbrev pub room_at : Alone (MutBor (List ℕ) × A) → List ℕ
   room_at a = a.1.1.1.0.now
 
   abbrev alone_in : Alone A → Heard
   alone_in a = hear (daemon_handshake (version_of a)) [] (stream_of a) 0 0 blank
 
 module _ {A B C D : Type 0} where
-  abbrev pub room_after : A × (B × (C × (Bor (List ℕ) × D))) → List ℕ
+  abbrev pub room_after : A × (B × (C × (MutBor (List ℕ) × D))) → List ℕ
   room_after x = x.1.1.1.0.now
 
 -- ---- an answer is what both streams mean, up to where they are passed

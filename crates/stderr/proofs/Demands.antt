@@ -9,7 +9,7 @@ use lib.Dec.{eqb}
 use contract.Lifetimes.{Lfts}
 use borrow.Fn.Kinds.{Dens, ended_of}
 use denote.Triple.Clauses.{AtExit}
-use denote.Ref.{Bor}
+use denote.Ref.{Bor, MutBor}
 use Rattle.layouts.specs.declared.Refusal.{Refusal}
 use Rattle.layouts.specs.declared.Record.{Record}
 use Rattle.layouts.specs.declared.Mode.{Mode}
@@ -50,7 +50,7 @@ module _ {A : Type 0} where
   abbrev stream_of : Asked A → List ℕ
   stream_of a = a.1.1.1.0.now
 
-  abbrev entries_at : Asked (Bor (List ℕ) × A) → List ℕ
+  abbrev entries_at : Asked (MutBor (List ℕ) × A) → List ℕ
   entries_at a = a.1.1.1.1.0.now
 
   -- the pieces of the error block that stands in the stream, if one does
@@ -58,7 +58,7 @@ module _ {A : Type 0} where
   block_in a = error_pieces (kind_asked a) (stream_of a) (stderr_loop (stream_of a))
 
 module _ {A B C D E : Type 0} where
-  abbrev entries_after : A × (B × (C × (D × (Bor (List ℕ) × E)))) → List ℕ
+  abbrev entries_after : A × (B × (C × (D × (MutBor (List ℕ) × E)))) → List ℕ
   entries_after x = x.1.1.1.1.0.now
 
 -- what was said where all was fine

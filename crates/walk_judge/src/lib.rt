@@ -17,7 +17,7 @@ use numbers::Number;
 use walk_items::{Item, Layout};
 use walk_take::Series;
 
-#[derive(Drop)]
+#[derive(Clone, Copy)]
 pub enum Outcome {
     Fine,
     Refused(Refusal),
@@ -34,7 +34,7 @@ pub struct Answer {
 }
 
 // An answer without its numbers and counts, which stand beside it; a refusal leaves none of them.
-#[derive(Drop)]
+#[derive(Clone, Copy)]
 pub enum Said {
     Fine {
         kind: u64,

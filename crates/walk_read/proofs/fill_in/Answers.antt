@@ -8,7 +8,8 @@ use Rattle.walk_read.proofs.fill_in.Goals as goal
 pub returns-then-total-entries : goal.returns-then-total-entries
 returns-then-total-entries c =
     let h = c.requires in
-    let g = (c.fill.ensures.words, (c.fill.ensures.bytes, c.fill.ensures.payload)) in record { words = from_fold _ _ _ _ _ h entries_of _ _ (put_sets _ _ _ _ g.0); bytes = from_fold _ _ _ _ _ h (λ x. bytes_of (entries_of x)) _ _ (put_sets _ _ _ _ g.1.0); payload = from_fold _ _ _ _ _ h (payload_of _) _ _ g.1.1 }
+    let g = c.fill.ensures in
+    record { words = from_fold _ _ _ _ _ h entries_of _ _ (put_sets _ _ _ _ g.words); bytes = from_fold _ _ _ _ _ h (λ x. bytes_of (entries_of x)) _ _ (put_sets _ _ _ _ g.bytes); payload = from_fold _ _ _ _ _ h (payload_of _) _ _ g.payload }
 
 pub returns : goal.returns
 returns c =
