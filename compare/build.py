@@ -112,9 +112,9 @@ def over_library(source, made, cannot, more=None):
     return built(copied(source, WORK / source.name), made, cannot, {"LINTELOW_LIB": library(), **(more or {})})
 
 
-if __name__ == "__main__":  # FOLDER: only downloads the crate sources, to that folder
+if __name__ == "__main__":  # [FOLDER]: only downloads the crate sources, to that folder
     try:
-        crate_sources(pathlib.Path(sys.argv[1]))
+        crate_sources(*map(pathlib.Path, sys.argv[1:]))
     except Failed as why:
         print(f"compare: {why}", file=sys.stderr)
         sys.exit(2)

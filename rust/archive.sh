@@ -1,17 +1,17 @@
-# Read in by rust/library and rust/unproved, which set $root and stop(): what the static library is made of, and how an LLVM module becomes one.
+# Read in by rust/library, which sets $root and stop(): what the static library is made of, and how the toolchain makes it.
 
 # The crates of the static library, each behind those that it stands on. With them come the toolchain's own libraries that they name.
 crates() {
     awk '
         { sub(/#.*/, "") }
-        i = index($0, ":") { name = substr($0, 1, i - 1); gsub(/[ \t]/, "", name); below[name] = substr($0, i + 1) }
+        i = index($0, ":") { split(substr($0, 1, i - 1), words, " "); below[words[1]] = substr($0, i + 1) }
         function visit(name, names, count, k) {
             if (seen[name]++) return
             count = split(below[name], names, " ")
             for (k = 1; k <= count; k++) visit(names[k])
             print name
         }
-        END { visit("lintelow") }
+        END { visit("lintelow_c") }
     ' "$root/crates.txt"
 }
 
@@ -30,53 +30,50 @@ sources() { # PROCESSOR
     )
 }
 
-# Whether a folder has the library of these sources: beside it stands what it was made from, and its own sum, since 'rt staticlib' by itself would replace it.
+# Whether a folder has the library of these sources: beside it stands what it was made from, and its own sum, in case something else was put there.
 made_from() { echo "$2 $(sha256sum <"$1/liblintelow.a")"; } # FOLDER SOURCES
 is_made() { [ -f "$1/liblintelow.a" ] && [ "$(made_from "$1" "$2")" = "$(cat "$1/made-from" 2>/dev/null)" ]; }
 
 find_toolchain() {
     rt=$(command -v rt) ||
         stop "the Rattle toolchain is missing: put its bin/ on the PATH, or name a folder that has liblintelow.a by LINTELOW_LIB"
-    home=${RATTLE_HOME:-$(dirname "$(dirname "$(readlink -f "$rt")")")}
-    tools=$home/on/$(uname -m)/toolchain
-    [ -x "$tools/bin/clang" ] || stop "the Rattle toolchain has no clang at $tools/bin"
+    home=$(dirname "$(dirname "$(readlink -f "$rt")")")
 }
 
-links() { # FROM TO LEFT-OUT: links to all that FROM has but for one name
-    mkdir -p "$2"
-    for path in "$1"/*; do
-        [ "${path##*/}" = "$3" ] || ln -sfn "$path" "$2/${path##*/}"
+# For which processor the toolchain compiles. Without the first of these words the code would need a later x86-64 than the first.
+target_words() { # PROCESSOR
+    case $1 in
+        x86_64) echo --cpu x86-64 ;;
+        aarch64) echo --target aarch64-unknown-linux-gnu ;;
+        *) stop "the Rattle toolchain compiles for x86_64 and aarch64, and not for $1" ;;
+    esac
+}
+
+# Whether each crate below the library is as 'rt ci' proved and left it, and none is of another command, which 'rt' notes in a stamp.
+is_left_by_ci() {
+    for name in $(crates); do
+        [ -d "$root/crates/$name" ] && [ "$name" != lintelow_c ] || continue
+        [ -d "$root/crates/$name/out/rlib/$name.rlib" ] && [ ! -e "$root/crates/$name/out/rlib/stamp" ] || return 1
     done
 }
 
-# The toolchain's compiler again, with a clang that keeps the module which it compiles with all optimizations: in FOLDER/module.bc.
-keeping_toolchain() { # FOLDER PLACE
-    rm -rf "$2" "$1/module.bc"
-    links "$tools" "$2" bin
-    links "$tools/bin" "$2/bin" clang
-    cat >"$2/bin/clang" <<END
-#!/bin/sh
-case " \$* " in
-    *' -O3 '*) for word; do case \$word in *.bc) cp "\$word" '$1/module.bc' ;; esac; done ;;
-esac
-exec '$tools/bin/clang' "\$@"
-END
-    chmod +x "$2/bin/clang"
+# As 'rt lib' makes it, which would prove again all that 'rt ci' has just proved: lintelow_c is checked over what that left, and compiled.
+over_ci() { # PROCESSOR
+    cd "$root/crates/lintelow_c"
+    set -- $(target_words "$1") --extern "std=$home/rlibs/std.rlib" -L "dependency=$home/rlibs"
+    named=" $(sed -n 's/^lintelow_c staticlib://p' "$root/crates.txt") "
+    for name in $(crates); do
+        made=$root/crates/$name/out/rlib
+        [ "$name" != lintelow_c ] && [ -d "$root/crates/$name" ] || { made=$home/rlibs; [ -d "$made/$name.rlib" ] || continue; }
+        case $named in *" $name "*) set -- "$@" --extern "$name=$made/$name.rlib" ;; esac
+        set -- "$@" -L "dependency=$made"
+    done
+    mkdir -p out
+    "$home/bin/rattle" build --crate-name lintelow_c src/lib.rt "$@" --antt-project "$home/rattle/logic/antt-project.json" --logic-built "$home/logic_built" \
+        --links lintelow_c= --crate-type staticlib --toolchain "$home/toolchain" -o out/liblintelow_c.a
 }
 
-# The module that was kept as an archive for a processor, compiled as the toolchain compiles it for x86-64. FILTER changes the module's text on its way.
-archive() { # PROCESSOR FOLDER FILTER ..
-    processor=$1 folder=$2 target=$1-unknown-linux-gnu
-    shift 2
-    case $processor in x86_64) any=x86-64 ;; *) any=generic ;; esac
-    (
-        cd "$folder"
-        "$tools/bin/clang" --target="$target" -Wno-override-module -S -emit-llvm -Xclang -disable-llvm-passes -x ir module.bc -o kept.ll
-        sed "s/\"target-cpu\"=\"x86-64\"/\"target-cpu\"=\"$any\"/" kept.ll | "$@" >module.ll
-        "$tools/bin/clang" --target="$target" -ffunction-sections -fdata-sections -mllvm -trap-unreachable -mllvm -no-trap-after-noreturn \
-            --no-default-config -fintegrated-cc1 -Werror -c -x ir module.ll -o lintelow.o -fPIC -O3
-        rm -f liblintelow.a
-        "$tools/bin/llvm-ar" rcs liblintelow.a lintelow.o
-        rm -f module.bc kept.ll module.ll lintelow.o
-    )
+by_lib() { # PROCESSOR
+    cd "$root/crates/lintelow_c"
+    rt lib $(target_words "$1")
 }

@@ -1,6 +1,6 @@
 # Read in by rust/library and ./check: 'counted FILE COMMAND ..' runs a command of 'rt' with what it prints in a file, and tells how far it is: on a terminal by
 # one line that is written over, elsewhere by a line every half minute. LINTELOW_PROGRESS may name the terminal, for who has no standard error of its own.
-# The caller sets $root, $began, $all_crates and, where they are tried and run too, $all_edits and $all_programs.
+# The caller sets $began, $all_crates and, where they are tried and run too, $all_edits and $all_programs.
 
 # Seconds in words.
 span() {
@@ -9,25 +9,20 @@ span() {
 
 so_far() { echo "$(span $(($(date +%s) - began))) so far"; }
 
-# What 'rt' is at: of the files in which it notes how each crate or edit ended, the first that still has the word with which it begins.
-in_hand() { # FOLDER WORD FILE
-    (cd "$root/target/$1" 2>/dev/null && find . -maxdepth 2 -name '*.res' -newer "$3.began" -exec grep -lx "$2" {} + | sed 's,^\./,,; s,\.res$,,' | sort | head -n 1)
-}
-
+# By what 'rt' prints: 'rt ci' says of each crate when it is proved and when its edits are begun, and 'rt lib' when a crate is begun.
 how_far() { # FILE
-    proved=$(sed -n 's/^rt: \([A-Za-z0-9_]*\) proved (.*/\1/p' "$1" | sort -u | wc -l)
-    tried=$(grep -c '^rt: must-fail ' "$1" || :)
-    ran=$(grep -c '^rt: [A-Za-z0-9_]* ran' "$1" || :)
-    if [ "$proved" -lt "$all_crates" ]; then
-        name=$(in_hand log failed "$1")
-        # the last one is made into the archive, of which 'rt' keeps no note
-        [ -n "$name" ] || [ $((proved + 1)) -lt "$all_crates" ] || name=lintelow
-        echo "proving $((proved + 1)) of $all_crates${name:+: $name}, $(so_far)"
-    elif [ "$tried" -lt "${all_edits:-0}" ]; then
-        name=$(in_hand must-fail survived "$1")
-        echo "must-fail edit $((tried + 1)) of $all_edits${name:+: $name}, $(so_far)"
-    elif [ "$ran" -lt "${all_programs:-0}" ]; then
-        echo "running program $((ran + 1)) of $all_programs, $(so_far)"
+    if [ -z "${all_edits:-}" ]; then
+        name=$(sed -n 's/^rt: chose --jobs [0-9]* for \([A-Za-z0-9_]*\)$/\1/p' "$1" | tail -n 1)
+        echo "proving ${name:+$name, one of }$all_crates crates, $(so_far)"
+        return
+    fi
+    proved=$(sed -n 's/^rt: \([A-Za-z0-9_]*\) \(proved\|is kept: .*\)$/\1/p' "$1" | sort -u | wc -l)
+    tried=$(sed -n 's/^rt: [A-Za-z0-9_]*: trying its must-fail edits (\([0-9]*\))$/\1/p' "$1" | awk '{ n += $1 } END { print n + 0 }')
+    ran=$(sed -n 's/^rt: \([A-Za-z0-9_]*\) ran[ ,(].*/\1/p' "$1" | sort -u | wc -l)
+    if [ "$ran" -gt 0 ]; then
+        echo "ran $ran of $all_programs programs, $(so_far)"
+    else
+        echo "proved $proved of $all_crates crates, began $tried of $all_edits must-fail edits, $(so_far)"
     fi
 }
 
@@ -49,7 +44,6 @@ counted() { # FILE COMMAND ..
     shift
     if [ -n "${LINTELOW_PROGRESS:-}" ]; then exec 3>>"$LINTELOW_PROGRESS"; else exec 3>&2; fi
     : >"$file"
-    : >"$file.began"
     tell "$file" &
     teller=$!
     "$@" >"$file" 2>&1 3>&- || status=$?
@@ -57,6 +51,5 @@ counted() { # FILE COMMAND ..
     wait "$teller" 2>/dev/null || :
     [ ! -t 3 ] || printf '\r\033[K' >&3
     exec 3>&-
-    rm -f "$file.began"
     return "$status"
 }

@@ -1,4 +1,4 @@
-//! Gets the static library of crates/lintelow and has it linked.
+//! Gets the static library of crates/lintelow_c and has it linked.
 //!
 //! `LINTELOW_LIB` may name a folder that already has it; else rust/library finds it or makes it, which proves what is not proved yet.
 use std::env;
@@ -12,8 +12,16 @@ const TERMINAL: &str = "/dev/tty";
 fn main() {
     let root = PathBuf::from(given("CARGO_MANIFEST_DIR")).join("../..");
     let out = PathBuf::from(given("OUT_DIR"));
-    for path in ["crates", "crates.txt", "rust/library", "rust/archive.sh"] {
+    for path in ["crates.txt", "rust/library", "rust/archive.sh"] {
         println!("cargo:rerun-if-changed={}", root.join(path).display());
+    }
+    // Not the crates' folders out/, which have gigabytes, and change where no source does.
+    for folder in fs::read_dir(root.join("crates")).into_iter().flatten().flatten() {
+        for part in ["src", "specs", "proofs"].map(|part| folder.path().join(part)) {
+            if part.is_dir() {
+                println!("cargo:rerun-if-changed={}", part.display());
+            }
+        }
     }
     println!("cargo:rerun-if-changed=build.rs");
     println!("cargo:rerun-if-env-changed=LINTELOW_LIB");

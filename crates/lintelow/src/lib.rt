@@ -1,6 +1,6 @@
 #![tactic(auto)]
-// The C boundary: numbers and byte slices. A call returns 0 or the refusal's number and writes its answer into the block; a block that is too short is
-// refused before all else: `lintelow_answers::put` refuses it, and a call that lends other room looks before it reads.
+// The C boundary: numbers and byte slices; `lintelow_c` exports it. A call returns 0 or the refusal's number and writes its answer into the block; a block that
+// is too short is refused before all else: `lintelow_answers::put` refuses it, and a call that lends other room looks before it reads.
 ghost use Rattle.std.specs.Prelude.{◌≡◌};
 ghost use Rattle.layouts.specs.Primitive.{version};
 ghost use Rattle.layouts.specs.Calls.{skip_daemon_result};
@@ -13,8 +13,7 @@ ghost use Rattle.lintelow.specs.Calls.{asked, error_asked, arguments_called, rep
 pub mod reads;
 pub mod writes;
 
-#[unsafe(no_mangle)]
-pub extern "C" fn lintelow_read_op_args(
+pub fn lintelow_read_op_args(
     mode: u8,
     op: u64,
     major: u16,
@@ -48,8 +47,7 @@ pub extern "C" fn lintelow_read_op_args(
     lintelow_answers::put_said(block, said, numbers, counts)
 }
 
-#[unsafe(no_mangle)]
-pub extern "C" fn lintelow_read_daemon_result(
+pub fn lintelow_read_daemon_result(
     op: u64,
     major: u16,
     minor: u8,
@@ -82,8 +80,7 @@ pub extern "C" fn lintelow_read_daemon_result(
 }
 
 // No room is lent: start and length of the one string are numbers 1 and 2 of the block's twelve.
-#[unsafe(no_mangle)]
-pub extern "C" fn lintelow_skip_op_args(
+pub fn lintelow_skip_op_args(
     mode: u8,
     op: u64,
     major: u16,
@@ -98,8 +95,7 @@ pub extern "C" fn lintelow_skip_op_args(
     lintelow_answers::put(block, passed)
 }
 
-#[unsafe(no_mangle)]
-pub extern "C" fn lintelow_skip_daemon_result(
+pub fn lintelow_skip_daemon_result(
     op: u64,
     major: u16,
     minor: u8,
@@ -113,8 +109,7 @@ pub extern "C" fn lintelow_skip_daemon_result(
     lintelow_answers::put(block, past)
 }
 
-#[unsafe(no_mangle)]
-pub extern "C" fn lintelow_read_stderr_loop(s: &[u8], block: &mut [u8]) -> u64
+pub fn lintelow_read_stderr_loop(s: &[u8], block: &mut [u8]) -> u64
     ensures number { result ≡ number_of block.old (answer_as (read_stderr_loop s.now)) }
     ensures block { block.new ≡ block_after block.old (answer_as (read_stderr_loop s.now)) }
 {
@@ -122,8 +117,7 @@ pub extern "C" fn lintelow_read_stderr_loop(s: &[u8], block: &mut [u8]) -> u64
     lintelow_answers::put(block, stopped)
 }
 
-#[unsafe(no_mangle)]
-pub extern "C" fn lintelow_read_stderr_with_error(
+pub fn lintelow_read_stderr_with_error(
     mode: u8,
     major: u16,
     minor: u8,
@@ -148,8 +142,7 @@ pub extern "C" fn lintelow_read_stderr_with_error(
     lintelow_answers::put(block, told)
 }
 
-#[unsafe(no_mangle)]
-pub extern "C" fn lintelow_parse_handshake(
+pub fn lintelow_parse_handshake(
     client: &[u8],
     daemon: &[u8],
     entries: &mut [u8],
@@ -174,8 +167,7 @@ pub extern "C" fn lintelow_parse_handshake(
     lintelow_answers::put_said(block, greeted, numbers, counts)
 }
 
-#[unsafe(no_mangle)]
-pub extern "C" fn lintelow_parse_daemon_handshake(
+pub fn lintelow_parse_daemon_handshake(
     major: u16,
     minor: u8,
     daemon: &[u8],

@@ -14,8 +14,7 @@ ghost use Rattle.lintelow.specs.Calls.{set_called, framed_called};
 use versions::ProtocolVersion;
 use wire::Cursor;
 
-#[unsafe(no_mangle)]
-pub extern "C" fn lintelow_read_u64(s: &[u8], at: usize, block: &mut [u8]) -> u64
+pub fn lintelow_read_u64(s: &[u8], at: usize, block: &mut [u8]) -> u64
     ensures number { result ≡ number_of block.old (answer_as (ended (read_number s.now at))) }
     ensures block { block.new ≡ block_after block.old (answer_as (ended (read_number s.now at))) }
 {
@@ -24,8 +23,7 @@ pub extern "C" fn lintelow_read_u64(s: &[u8], at: usize, block: &mut [u8]) -> u6
     lintelow_answers::put(block, lintelow_answers::number(r))
 }
 
-#[unsafe(no_mangle)]
-pub extern "C" fn lintelow_read_u32(s: &[u8], at: usize, block: &mut [u8]) -> u64
+pub fn lintelow_read_u32(s: &[u8], at: usize, block: &mut [u8]) -> u64
     ensures number { result ≡ number_of block.old (answer_as (ended (read_u32 s.now at))) }
     ensures block { block.new ≡ block_after block.old (answer_as (ended (read_u32 s.now at))) }
 {
@@ -34,8 +32,7 @@ pub extern "C" fn lintelow_read_u32(s: &[u8], at: usize, block: &mut [u8]) -> u6
     lintelow_answers::put(block, lintelow_answers::number(r))
 }
 
-#[unsafe(no_mangle)]
-pub extern "C" fn lintelow_peek_u64(s: &[u8], at: usize, block: &mut [u8]) -> u64
+pub fn lintelow_peek_u64(s: &[u8], at: usize, block: &mut [u8]) -> u64
     ensures number { result ≡ number_of block.old (answer_as (peeked_at at (peek_number s.now at))) }
     ensures block { block.new ≡ block_after block.old (answer_as (peeked_at at (peek_number s.now at))) }
 {
@@ -44,8 +41,7 @@ pub extern "C" fn lintelow_peek_u64(s: &[u8], at: usize, block: &mut [u8]) -> u6
     lintelow_answers::put(block, lintelow_answers::peek(at, r))
 }
 
-#[unsafe(no_mangle)]
-pub extern "C" fn lintelow_read_bytes(s: &[u8], at: usize, block: &mut [u8]) -> u64
+pub fn lintelow_read_bytes(s: &[u8], at: usize, block: &mut [u8]) -> u64
     ensures number { result ≡ number_of block.old (answer_as (string_read (read_bytes s.now at))) }
     ensures block { block.new ≡ block_after block.old (answer_as (string_read (read_bytes s.now at))) }
     ensures held { Held s.now }
@@ -55,8 +51,7 @@ pub extern "C" fn lintelow_read_bytes(s: &[u8], at: usize, block: &mut [u8]) -> 
     lintelow_answers::put(block, lintelow_answers::string(r))
 }
 
-#[unsafe(no_mangle)]
-pub extern "C" fn lintelow_read_string(s: &[u8], at: usize, block: &mut [u8]) -> u64
+pub fn lintelow_read_string(s: &[u8], at: usize, block: &mut [u8]) -> u64
     ensures number { result ≡ number_of block.old (answer_as (string_read (read_text s.now at))) }
     ensures block { block.new ≡ block_after block.old (answer_as (string_read (read_text s.now at))) }
     ensures held { Held s.now }
@@ -66,8 +61,7 @@ pub extern "C" fn lintelow_read_string(s: &[u8], at: usize, block: &mut [u8]) ->
     lintelow_answers::put(block, lintelow_answers::string(r))
 }
 
-#[unsafe(no_mangle)]
-pub extern "C" fn lintelow_skip_string(s: &[u8], at: usize, block: &mut [u8]) -> u64
+pub fn lintelow_skip_string(s: &[u8], at: usize, block: &mut [u8]) -> u64
     ensures number { result ≡ number_of block.old (answer_as (passed_to (skip_string s.now at))) }
     ensures block { block.new ≡ block_after block.old (answer_as (passed_to (skip_string s.now at))) }
 {
@@ -76,13 +70,7 @@ pub extern "C" fn lintelow_skip_string(s: &[u8], at: usize, block: &mut [u8]) ->
     lintelow_answers::put(block, lintelow_answers::passed(r))
 }
 
-#[unsafe(no_mangle)]
-pub extern "C" fn lintelow_read_string_set(
-    s: &[u8],
-    at: usize,
-    entries: &mut [u8],
-    block: &mut [u8],
-) -> u64
+pub fn lintelow_read_string_set(s: &[u8], at: usize, entries: &mut [u8], block: &mut [u8]) -> u64
     ensures number { result ≡ (set_called s.now at entries.old block.old).number }
     ensures block { block.new ≡ (set_called s.now at entries.old block.old).block }
     ensures entries { entries.new ≡ (set_called s.now at entries.old block.old).room }
@@ -96,8 +84,7 @@ pub extern "C" fn lintelow_read_string_set(
     lintelow_answers::put(block, lintelow_answers::count(r))
 }
 
-#[unsafe(no_mangle)]
-pub extern "C" fn lintelow_skip_string_set(s: &[u8], at: usize, block: &mut [u8]) -> u64
+pub fn lintelow_skip_string_set(s: &[u8], at: usize, block: &mut [u8]) -> u64
     ensures number { result ≡ number_of block.old (answer_as (ended (skip_string_set s.now at))) }
     ensures block { block.new ≡ block_after block.old (answer_as (ended (skip_string_set s.now at))) }
 {
@@ -106,13 +93,7 @@ pub extern "C" fn lintelow_skip_string_set(s: &[u8], at: usize, block: &mut [u8]
     lintelow_answers::put(block, lintelow_answers::number(r))
 }
 
-#[unsafe(no_mangle)]
-pub extern "C" fn lintelow_read_framed(
-    s: &[u8],
-    at: usize,
-    payload: &mut [u8],
-    block: &mut [u8],
-) -> u64
+pub fn lintelow_read_framed(s: &[u8], at: usize, payload: &mut [u8], block: &mut [u8]) -> u64
     ensures number { result ≡ (framed_called s.now at payload.old block.old).number }
     ensures block { block.new ≡ (framed_called s.now at payload.old block.old).block }
     ensures payload { payload.new ≡ (framed_called s.now at payload.old block.old).room }
@@ -125,8 +106,7 @@ pub extern "C" fn lintelow_read_framed(
     lintelow_answers::put(block, lintelow_answers::total(r))
 }
 
-#[unsafe(no_mangle)]
-pub extern "C" fn lintelow_skip_framed(s: &[u8], at: usize, block: &mut [u8]) -> u64
+pub fn lintelow_skip_framed(s: &[u8], at: usize, block: &mut [u8]) -> u64
     ensures number { result ≡ number_of block.old (answer_as (ended (skip_framed s.now at))) }
     ensures block { block.new ≡ block_after block.old (answer_as (ended (skip_framed s.now at))) }
 {
@@ -135,13 +115,7 @@ pub extern "C" fn lintelow_skip_framed(s: &[u8], at: usize, block: &mut [u8]) ->
     lintelow_answers::put(block, lintelow_answers::number(r))
 }
 
-#[unsafe(no_mangle)]
-pub extern "C" fn lintelow_entry(
-    bytes: &[u8],
-    entries: &[u8],
-    index: usize,
-    block: &mut [u8],
-) -> u64
+pub fn lintelow_entry(bytes: &[u8], entries: &[u8], index: usize, block: &mut [u8]) -> u64
     ensures number { result ≡ number_of block.old (answer_as (entry_read bytes.now (entries_in entries.now) index)) }
     ensures block { block.new ≡ block_after block.old (answer_as (entry_read bytes.now (entries_in entries.now) index)) }
 {
@@ -150,8 +124,7 @@ pub extern "C" fn lintelow_entry(
     lintelow_answers::put(block, lintelow_answers::entry(r))
 }
 
-#[unsafe(no_mangle)]
-pub extern "C" fn lintelow_extract_store_path(c: &[u8], block: &mut [u8]) -> u64
+pub fn lintelow_extract_store_path(c: &[u8], block: &mut [u8]) -> u64
     ensures number { result ≡ number_of block.old (answer_as (yes_no (ok (is_store_path c.now)))) }
     ensures block { block.new ≡ block_after block.old (answer_as (yes_no (ok (is_store_path c.now)))) }
 {
@@ -159,8 +132,7 @@ pub extern "C" fn lintelow_extract_store_path(c: &[u8], block: &mut [u8]) -> u64
     lintelow_answers::put(block, lintelow_answers::yes_no(b))
 }
 
-#[unsafe(no_mangle)]
-pub extern "C" fn lintelow_op_has_client_framed_data(op: u64, block: &mut [u8]) -> u64
+pub fn lintelow_op_has_client_framed_data(op: u64, block: &mut [u8]) -> u64
     ensures number { result ≡ number_of block.old (answer_as (yes_no (op_has_client_framed_data op))) }
     ensures block { block.new ≡ block_after block.old (answer_as (yes_no (op_has_client_framed_data op))) }
 {
@@ -168,8 +140,7 @@ pub extern "C" fn lintelow_op_has_client_framed_data(op: u64, block: &mut [u8]) 
     lintelow_answers::put(block, lintelow_answers::framed(f))
 }
 
-#[unsafe(no_mangle)]
-pub extern "C" fn lintelow_version_from_wire(wire: u64, block: &mut [u8]) -> u64
+pub fn lintelow_version_from_wire(wire: u64, block: &mut [u8]) -> u64
     ensures number { result ≡ number_of block.old (answer_as (version_told (from_wire wire))) }
     ensures block { block.new ≡ block_after block.old (answer_as (version_told (from_wire wire))) }
 {

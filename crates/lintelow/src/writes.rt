@@ -9,8 +9,7 @@ ghost use Rattle.lintelow_answers.specs.Answers.{written};
 ghost use Rattle.lintelow_answers.specs.Block.{guarded, number_of, block_after};
 ghost use Rattle.lintelow.specs.Calls.{asked, set_written, call_written};
 
-#[unsafe(no_mangle)]
-pub extern "C" fn lintelow_write_u64(out: &mut [u8], x: u64, block: &mut [u8]) -> u64
+pub fn lintelow_write_u64(out: &mut [u8], x: u64, block: &mut [u8]) -> u64
     ensures number { result ≡ number_of block.old (answer_as (written (writing (number_bytes x) out.old))) }
     ensures block { block.new ≡ block_after block.old (answer_as (written (writing (number_bytes x) out.old))) }
     ensures out { out.new ≡ lent_after (guarded block.old (writing (number_bytes x) out.old)) (number_bytes x) out.old }
@@ -22,8 +21,7 @@ pub extern "C" fn lintelow_write_u64(out: &mut [u8], x: u64, block: &mut [u8]) -
     lintelow_answers::put(block, lintelow_answers::write(r))
 }
 
-#[unsafe(no_mangle)]
-pub extern "C" fn lintelow_write_u32(out: &mut [u8], x: u32, block: &mut [u8]) -> u64
+pub fn lintelow_write_u32(out: &mut [u8], x: u32, block: &mut [u8]) -> u64
     ensures number { result ≡ number_of block.old (answer_as (written (writing (little_end 4 x) out.old))) }
     ensures block { block.new ≡ block_after block.old (answer_as (written (writing (little_end 4 x) out.old))) }
     ensures out { out.new ≡ lent_after (guarded block.old (writing (little_end 4 x) out.old)) (little_end 4 x) out.old }
@@ -35,8 +33,7 @@ pub extern "C" fn lintelow_write_u32(out: &mut [u8], x: u32, block: &mut [u8]) -
     lintelow_answers::put(block, lintelow_answers::write(r))
 }
 
-#[unsafe(no_mangle)]
-pub extern "C" fn lintelow_write_bytes(out: &mut [u8], c: &[u8], block: &mut [u8]) -> u64
+pub fn lintelow_write_bytes(out: &mut [u8], c: &[u8], block: &mut [u8]) -> u64
     ensures number { result ≡ number_of block.old (answer_as (written (writing (string_bytes c.now) out.old))) }
     ensures block { block.new ≡ block_after block.old (answer_as (written (writing (string_bytes c.now) out.old))) }
     ensures out { out.new ≡ lent_after (guarded block.old (writing (string_bytes c.now) out.old)) (string_bytes c.now) out.old }
@@ -48,8 +45,7 @@ pub extern "C" fn lintelow_write_bytes(out: &mut [u8], c: &[u8], block: &mut [u8
     lintelow_answers::put(block, lintelow_answers::write(r))
 }
 
-#[unsafe(no_mangle)]
-pub extern "C" fn lintelow_write_string(out: &mut [u8], c: &[u8], block: &mut [u8]) -> u64
+pub fn lintelow_write_string(out: &mut [u8], c: &[u8], block: &mut [u8]) -> u64
     ensures number { result ≡ number_of block.old (answer_as (written (write_string c.now out.old))) }
     ensures block { block.new ≡ block_after block.old (answer_as (written (write_string c.now out.old))) }
     ensures out { out.new ≡ lent_after (guarded block.old (write_string c.now out.old)) (string_bytes c.now) out.old }
@@ -61,8 +57,7 @@ pub extern "C" fn lintelow_write_string(out: &mut [u8], c: &[u8], block: &mut [u
     lintelow_answers::put(block, lintelow_answers::write(r))
 }
 
-#[unsafe(no_mangle)]
-pub extern "C" fn lintelow_write_string_set(
+pub fn lintelow_write_string_set(
     out: &mut [u8],
     bytes: &[u8],
     entries: &[u8],
@@ -81,8 +76,7 @@ pub extern "C" fn lintelow_write_string_set(
     lintelow_answers::put(block, lintelow_answers::write(r))
 }
 
-#[unsafe(no_mangle)]
-pub extern "C" fn lintelow_write_framed(out: &mut [u8], c: &[u8], block: &mut [u8]) -> u64
+pub fn lintelow_write_framed(out: &mut [u8], c: &[u8], block: &mut [u8]) -> u64
     ensures number { result ≡ number_of block.old (answer_as (written (writing (framed_bytes c.now) out.old))) }
     ensures block { block.new ≡ block_after block.old (answer_as (written (writing (framed_bytes c.now) out.old))) }
     ensures out { out.new ≡ lent_after (guarded block.old (writing (framed_bytes c.now) out.old)) (framed_bytes c.now) out.old }
@@ -94,8 +88,7 @@ pub extern "C" fn lintelow_write_framed(out: &mut [u8], c: &[u8], block: &mut [u
     lintelow_answers::put(block, lintelow_answers::write(r))
 }
 
-#[unsafe(no_mangle)]
-pub extern "C" fn lintelow_write_mode(out: &mut [u8], n: u64, block: &mut [u8]) -> u64
+pub fn lintelow_write_mode(out: &mut [u8], n: u64, block: &mut [u8]) -> u64
     ensures number { result ≡ number_of block.old (answer_as (written (writing (mode_text n) out.old))) }
     ensures block { block.new ≡ block_after block.old (answer_as (written (writing (mode_text n) out.old))) }
     ensures out { out.new ≡ lent_after (guarded block.old (writing (mode_text n) out.old)) (mode_text n) out.old }
@@ -107,8 +100,7 @@ pub extern "C" fn lintelow_write_mode(out: &mut [u8], n: u64, block: &mut [u8]) 
     lintelow_answers::put(block, lintelow_answers::write(r))
 }
 
-#[unsafe(no_mangle)]
-pub extern "C" fn lintelow_write_paths(out: &mut [u8], n: u64, block: &mut [u8]) -> u64
+pub fn lintelow_write_paths(out: &mut [u8], n: u64, block: &mut [u8]) -> u64
     ensures number { result ≡ number_of block.old (answer_as (written (writing (paths_text n) out.old))) }
     ensures block { block.new ≡ block_after block.old (answer_as (written (writing (paths_text n) out.old))) }
     ensures out { out.new ≡ lent_after (guarded block.old (writing (paths_text n) out.old)) (paths_text n) out.old }
@@ -120,8 +112,7 @@ pub extern "C" fn lintelow_write_paths(out: &mut [u8], n: u64, block: &mut [u8])
     lintelow_answers::put(block, lintelow_answers::write(r))
 }
 
-#[unsafe(no_mangle)]
-pub extern "C" fn lintelow_write_overrides(out: &mut [u8], n: u64, block: &mut [u8]) -> u64
+pub fn lintelow_write_overrides(out: &mut [u8], n: u64, block: &mut [u8]) -> u64
     ensures number { result ≡ number_of block.old (answer_as (written (writing (overrides_text n) out.old))) }
     ensures block { block.new ≡ block_after block.old (answer_as (written (writing (overrides_text n) out.old))) }
     ensures out { out.new ≡ lent_after (guarded block.old (writing (overrides_text n) out.old)) (overrides_text n) out.old }
@@ -134,8 +125,7 @@ pub extern "C" fn lintelow_write_overrides(out: &mut [u8], n: u64, block: &mut [
 }
 
 // The output stands behind what is read, other than in the writers above.
-#[unsafe(no_mangle)]
-pub extern "C" fn lintelow_write_op_args(
+pub fn lintelow_write_op_args(
     mode: u8,
     op: u64,
     major: u16,

@@ -8,7 +8,26 @@ use std::ffi::OsString;
 use std::fs;
 use std::io::{self, Write};
 
-pub const USAGE: &str = include_str!("../usage-call.txt");
+pub const USAGE: &str = "\
+usage: call [--hex] [--ported] VERSION OPERATION [NAME=VALUE ..]
+
+Writes a call as a Nix client sends it, the operation's number and its arguments, to standard output. VERSION is the one spoken, such as 1.38; OPERATION
+is a name or a number; the NAMEs are those that 'show --json' has.
+
+  path=TEXT             a string; the name again for each further string of a set
+  verbosity=3           a number
+  repair=true           a flag: true or false
+  mode=check            a mode: normal, repair, check, or a number
+  overrides=NAME=VALUE  a pair; the name again for each further one
+  payload=@FILE         what the file holds
+
+A set or pairs that are not named are empty; every other field of this operation and version is named once. docs/CALL.md lists them.
+
+  --hex                 hexadecimal in place of the bytes
+  --ported              arguments as nix-wire reads them, not as daemons do
+
+Exit status: 0 the call was written; 1 it was refused; 2 a file or the command line.
+";
 
 const NO_ARGUMENTS: u64 = 13;
 

@@ -2,36 +2,27 @@
 use crate::fields::{self, Fields, Value};
 use crate::hex;
 use crate::library::Payload;
-use crate::magic::Hint;
 use crate::names;
-use crate::object::{Json, Numbers, Object};
 use crate::session::*;
 use crate::view::View;
 use lintelow::wire::mode_text;
-use lintelow::{ErrorInfo, StderrCode, Version};
+use lintelow::{ErrorInfo, StderrCode};
+use std::fmt::Write as _;
 use std::io::{self, Write};
-use std::mem;
 
-/// The version of this JSON.
-const FORMAT: u64 = 2;
-
-pub struct Lines<W> {
+pub struct Json<W> {
     out: W,
-    numbers: Numbers,
-    begun: bool,
 }
 
-impl<W: Write> Lines<W> {
-    pub fn new(out: W, numbers: Numbers) -> Lines<W> {
-        Lines { out, numbers, begun: false }
+impl<W: Write> Json<W> {
+    pub fn new(out: W) -> Json<W> {
+        Json { out }
     }
 }
 
-impl<W: Write> View for Lines<W> {
+impl<W: Write> View for Json<W> {
     fn event(&mut self, event: &Event) -> io::Result<()> {
-        let object = object(event);
-        let object = if mem::replace(&mut self.begun, true) { object } else { first(object) };
-        writeln!(self.out, "{}", object.written(self.numbers))
+        writeln!(self.out, "{}", line(event))
     }
 
     fn flush(&mut self) -> io::Result<()> {
@@ -39,133 +30,114 @@ impl<W: Write> View for Lines<W> {
     }
 }
 
-/// The object of the first line, which says the version of the JSON.
-pub fn first(object: Object) -> Object {
-    object.with_second("format", FORMAT)
-}
-
 /// The object for an event.
-pub fn object(event: &Event) -> Object<'_> {
-    match event {
+pub fn line(event: &Event) -> String {
+    let object = match event {
         Event::Handshake(handshake) => self::handshake(handshake),
         Event::Call(call) => self::call(call),
         Event::Stop(Stop::Refused(refused)) => self::refused(refused),
         Event::Stop(Stop::Unfollowed(unfollowed)) => self::unfollowed(unfollowed),
         Event::Stop(Stop::Unended(unended)) => self::unended(unended),
-        Event::End(end) => {
-            named("end").with("calls", end.calls).with("left", &end.left).with("uncertain", end.uncertain.iter().copied().collect::<Json>())
-        }
-    }
+        Event::End(end) => Object::new().text("event", "end").number("calls", end.calls).range("left", &end.left),
+    };
+    object.close()
 }
 
-/// The object of an event with that name.
-pub fn named(event: &'static str) -> Object<'static> {
-    Object::new().with("event", event)
-}
-
-fn handshake(handshake: &Handshake) -> Object<'_> {
+fn handshake(handshake: &Handshake) -> Object {
     let info = &handshake.info;
-    let told = named("handshake")
-        .with("client", &handshake.client)
-        .with("daemon", &handshake.daemon)
-        .with("client_version", info.client_version.to_string())
-        .with("daemon_version", info.server_version.to_string());
-    with_version(told, info.negotiated_version)
-        .with("client_features", &info.client_features[..])
-        .with("daemon_features", &info.server_features[..])
-        .with("daemon_nix", info.daemon_nix_version.as_deref())
-        .with("trust", info.trust_status)
+    Object::new()
+        .text("event", "handshake")
+        .range("client", &handshake.client)
+        .range("daemon", &handshake.daemon)
+        .text("client_version", &info.client_version.to_string())
+        .text("daemon_version", &info.server_version.to_string())
+        .text("version", &info.negotiated_version.to_string())
+        .raw("client_features", &strings(&info.client_features))
+        .raw("daemon_features", &strings(&info.server_features))
+        .raw("daemon_nix", &info.daemon_nix_version.as_deref().map_or("null".to_owned(), quoted))
+        .raw("trust", &number_or_null(info.trust_status))
 }
 
-fn call(call: &Call) -> Object<'_> {
-    let told = with_version(with_call(named("call"), call), call.version).with("number", &call.number).with("whole", call.is_whole());
-    with_outcome(with_messages(with_arguments(told, call), call), call)
+fn call(call: &Call) -> Object {
+    let mut object = Object::new()
+        .text("event", "call")
+        .number("call", call.index)
+        .number("op", call.op)
+        .text("name", names::operation(call.op))
+        .text("version", &call.version.to_string())
+        .range("number", &call.number);
+    if let Some(Arguments { bytes, fixed_end, call, payload }) = &call.arguments {
+        let told = Object::new().range("range", bytes).number("fixed_end", *fixed_end as u64);
+        object = object.raw("arguments", &with_fields(told, &fields::of_arguments(call, payload)).close());
+    }
+    if let Some(Messages { bytes, count, terminal }) = &call.messages {
+        let terminal = match terminal {
+            Some(StderrCode::Last) => "\"Last\"",
+            Some(StderrCode::Error) => "\"Error\"",
+            None => "null",
+        };
+        object = object.raw("messages", &Object::new().range("range", bytes).number("count", *count).raw("terminal", terminal).close());
+    }
+    with_outcome(object, call)
 }
 
 /// The object for a call that failed, in a summary.
-pub fn failed(call: &Call) -> Object<'_> {
-    with_outcome(with_call(Object::new(), call), call)
+pub fn failed(call: &Call) -> String {
+    with_outcome(Object::new().number("call", call.index).number("op", call.op).text("name", names::operation(call.op)), call).close()
 }
 
-fn with_call<'a>(object: Object<'a>, call: &Call) -> Object<'a> {
-    with_op(object.with("call", call.index), call.op)
-}
-
-pub fn with_op(object: Object<'_>, op: u64) -> Object<'_> {
-    object.with("op", op).with("name", names::operation(op))
-}
-
-fn with_version(object: Object<'_>, version: Version) -> Object<'_> {
-    let Version { major, minor } = version;
-    object.with("version", version.to_string()).with("major", u64::from(major)).with("minor", u64::from(minor))
-}
-
-fn with_arguments<'a>(object: Object<'a>, call: &'a Call) -> Object<'a> {
-    let Some(Arguments { bytes, fixed_end, call, payload }) = &call.arguments else { return object };
-    let told = Object::new().with("range", bytes).with("fixed_end", *fixed_end);
-    object.with("arguments", with_fields(told, &fields::of_arguments(call, payload)))
-}
-
-fn with_messages<'a>(object: Object<'a>, call: &Call) -> Object<'a> {
-    let Some(Messages { bytes, count, terminal }) = &call.messages else { return object };
-    let terminal = terminal.as_ref().map(|terminal| match terminal {
-        StderrCode::Last => "Last",
-        StderrCode::Error => "Error",
-    });
-    object.with("messages", Object::new().with("range", bytes).with("count", *count).with("terminal", terminal))
-}
-
-fn with_outcome<'a>(object: Object<'a>, call: &'a Call) -> Object<'a> {
+fn with_outcome(object: Object, call: &Call) -> Object {
     match &call.outcome {
         None => object,
         Some(Outcome::Reply { bytes, data, payload }) => {
-            object.with("reply", with_fields(Object::new().with("range", bytes), &fields::of_reply(data, payload)))
+            object.raw("reply", &with_fields(Object::new().range("range", bytes), &fields::of_reply(data, payload)).close())
         }
-        Some(Outcome::Error { bytes, info }) => object.with("error", error(bytes, info)),
+        Some(Outcome::Error { bytes, info }) => object.raw("error", &error(bytes, info)),
     }
 }
 
-fn error<'a>(bytes: &Bytes, info: &'a ErrorInfo) -> Object<'a> {
+fn error(bytes: &Bytes, info: &ErrorInfo) -> String {
     Object::new()
-        .with("range", bytes)
-        .with("type", &info.error_type[..])
-        .with("level", info.level)
-        .with("name", &info.name[..])
-        .with("message", &info.message[..])
-        .with("traces", &info.traces[..])
-        .with("exit_status", info.exit_status)
+        .range("range", bytes)
+        .text("type", &info.error_type)
+        .number("level", info.level)
+        .text("name", &info.name)
+        .text("message", &info.message)
+        .raw("traces", &strings(&info.traces))
+        .raw("exit_status", &number_or_null(info.exit_status))
+        .close()
 }
 
-fn refused(refused: &Refused) -> Object<'_> {
-    let hint = refused.hint.map(|hint| match hint {
-        Hint::Swapped => "swapped",
-        Hint::Serve => "serve",
-    });
-    let told = named("refusal")
-        .with("call", refused.call)
-        .with("op", refused.op)
-        .with("name", refused.op.map(names::operation))
-        .with("part", part(refused.part))
-        .with("refusal", refused.refusal.number)
-        .with("meaning", refused.refusal.meaning())
-        .with("hint", hint)
-        .with("stream", refused.side.name())
-        .with("place", refused.place);
+fn refused(refused: &Refused) -> Object {
+    let told = Object::new()
+        .text("event", "refusal")
+        .raw("call", &number_or_null(refused.call))
+        .raw("op", &number_or_null(refused.op))
+        .text("part", part(refused.part))
+        .number("refusal", refused.refusal.number)
+        .text("meaning", refused.refusal.meaning())
+        .text("stream", refused.side.name())
+        .number("place", refused.place as u64);
     match &refused.good {
-        Some(good) => told.with("good", good),
+        Some(good) => told.range("good", good),
         None => told,
     }
 }
 
-fn unfollowed(unfollowed: &Unfollowed) -> Object<'_> {
-    let Unfollowed { call, op, version, known, client, daemon } = *unfollowed;
-    let told = with_op(named("unfollowed").with("call", call), op);
-    with_version(told, version).with("known", known).with("client", client).with("daemon", daemon)
+fn unfollowed(unfollowed: &Unfollowed) -> Object {
+    Object::new()
+        .text("event", "unfollowed")
+        .number("call", unfollowed.call)
+        .number("op", unfollowed.op)
+        .text("name", names::operation(unfollowed.op))
+        .text("version", &unfollowed.version.to_string())
+        .raw("known", if unfollowed.known { "true" } else { "false" })
+        .number("client", unfollowed.client as u64)
+        .number("daemon", unfollowed.daemon as u64)
 }
 
-fn unended(unended: &Unended) -> Object<'_> {
-    let Unended { call, op, daemon } = *unended;
-    with_op(named("unended").with("call", call), op).with("daemon", daemon)
+fn unended(unended: &Unended) -> Object {
+    Object::new().text("event", "unended").number("call", unended.call).number("op", unended.op).number("daemon", unended.daemon as u64)
 }
 
 fn part(part: Part) -> &'static str {
@@ -179,18 +151,99 @@ fn part(part: Part) -> &'static str {
     }
 }
 
-fn with_fields<'a>(object: Object<'a>, told: &Fields<'a>) -> Object<'a> {
-    told.fields.iter().fold(object.with("kind", told.kind), |object, (name, told)| object.with(name, value(told)))
+fn with_fields(object: Object, told: &Fields) -> Object {
+    told.fields.iter().fold(object.text("kind", told.kind), |object, (name, told)| object.raw(name, &value(told)))
 }
 
-fn value<'a>(value: &Value<'a>) -> Json<'a> {
-    match *value {
-        Value::Number(number) => (*number).into(),
-        Value::Flag(flag) => (*flag).into(),
-        Value::Mode(mode) => mode_text(*mode).into(),
-        Value::Text(text) => text.into(),
-        Value::Set(set) => set.into(),
-        Value::Pairs(pairs) => pairs.iter().map(|(name, value)| Object::new().with("name", &name[..]).with("value", &value[..])).collect(),
-        Value::Payload(Payload { size, first }) => Object::new().with("size", *size).with("first", hex::joined(first)).into(),
+fn value(value: &Value) -> String {
+    match value {
+        Value::Number(number) => number.to_string(),
+        Value::Flag(flag) => flag.to_string(),
+        Value::Mode(mode) => quoted(&mode_text(**mode)),
+        Value::Text(text) => quoted(text),
+        Value::Set(set) => strings(set),
+        Value::Pairs(pairs) => list(pairs.iter().map(|(name, value)| format!("[{},{}]", quoted(name), quoted(value)))),
+        Value::Payload(Payload { size, first }) => Object::new().number("size", *size).text("first", &hex::joined(first)).close(),
+    }
+}
+
+fn number_or_null(number: Option<u64>) -> String {
+    number.map_or("null".to_owned(), |number| number.to_string())
+}
+
+fn strings(strings: &[String]) -> String {
+    list(strings.iter().map(|text| quoted(text)))
+}
+
+/// A JSON list of values that are JSON already.
+pub fn list(values: impl Iterator<Item = String>) -> String {
+    format!("[{}]", values.collect::<Vec<_>>().join(","))
+}
+
+/// A JSON string. What a terminal would obey is escaped, and all else stands as it is.
+fn quoted(text: &str) -> String {
+    let mut json = String::with_capacity(text.len() + 2);
+    json.push('"');
+    for c in text.chars() {
+        match c {
+            '"' | '\\' => json.extend(['\\', c]),
+            _ if c.is_control() => {
+                let _ = write!(json, "\\u{:04x}", u32::from(c));
+            }
+            _ => json.push(c),
+        }
+    }
+    json.push('"');
+    json
+}
+
+/// A JSON object, name by name. Names are ours and need no escapes.
+pub struct Object(String);
+
+impl Object {
+    pub fn new() -> Object {
+        Object(String::from("{"))
+    }
+
+    /// A value that is JSON already.
+    pub fn raw(mut self, name: &str, json: &str) -> Object {
+        if self.0.len() > 1 {
+            self.0.push(',');
+        }
+        let _ = write!(self.0, "\"{name}\":{json}");
+        self
+    }
+
+    pub fn text(self, name: &str, text: &str) -> Object {
+        self.raw(name, &quoted(text))
+    }
+
+    pub fn number(self, name: &str, number: u64) -> Object {
+        self.raw(name, &number.to_string())
+    }
+
+    pub fn range(self, name: &str, bytes: &Bytes) -> Object {
+        self.raw(name, &format!("[{},{}]", bytes.start, bytes.end))
+    }
+
+    pub fn close(mut self) -> String {
+        self.0.push('}');
+        self.0
+    }
+}
+
+#[cfg(test)]
+mod tests {
+    use super::*;
+
+    #[test]
+    fn strings_are_escaped() {
+        assert_eq!(quoted("a\"b\\c\n\u{1b}é"), "\"a\\\"b\\\\c\\u000a\\u001bé\"");
+    }
+
+    #[test]
+    fn objects_have_commas_between_names() {
+        assert_eq!(Object::new().close(), "{}");
+        assert_eq!(Object::new().number("a", u64::MAX).range("b", &(1..2)).close(), "{\"a\":18446744073709551615,\"b\":[1,2]}");
     }
 }

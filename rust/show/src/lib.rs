@@ -5,12 +5,9 @@ mod fields;
 mod hex;
 mod json;
 mod library;
-mod magic;
 mod map;
 mod names;
-mod object;
 mod options;
-mod output;
 mod progress;
 mod recording;
 mod session;
@@ -19,10 +16,8 @@ mod text;
 mod view;
 mod words;
 
-use json::Lines;
 use options::Command;
-use output::WhileRead;
-use recording::{Recording, Unreadable};
+use recording::Recording;
 use session::{Event, Session, Stop};
 use std::env;
 use std::ffi::OsString;
@@ -31,7 +26,6 @@ use summary::{Form, Summary};
 use view::View;
 use words::Words;
 
-pub use object::Numbers;
 pub use options::Options;
 pub use progress::Progress;
 pub use words::Style;
@@ -44,31 +38,28 @@ pub enum Status {
     Unreadable = 2,
     Unfollowed = 3,
     Unended = 4,
-    LeftOver = 5,
-    Uncertain = 6,
 }
 
 /// The program: what the words of its command line ask for.
 pub fn run(words: impl Iterator<Item = OsString>) -> Status {
-    let done = match options::parse(words) {
-        Ok(Command::Show(options)) if !options.folder.is_dir() => {
-            return complain(&format!("there is no folder {}", text::quoted(&options.folder.to_string_lossy())));
+    let options = match options::parse(words) {
+        Ok(Command::Show(options)) => options,
+        Ok(Command::Help) => {
+            let _ = io::stdout().write_all(options::USAGE.as_bytes());
+            return Status::Read;
         }
-        Ok(Command::Show(options)) => match Recording::open(&options.folder) {
-            Ok(recording) => show(&recording, &options),
-            Err(Unreadable { path, why }) => return complain(&format!("cannot read {}: {why}", text::visible(&path.to_string_lossy()))),
-        },
-        Ok(Command::Print(text)) => print(text),
         Err(wrong) => return complain(&wrong),
     };
-    done.unwrap_or_else(|why| complain(&format!("cannot write: {why}")))
-}
-
-fn print(text: &str) -> io::Result<Status> {
-    let mut out = WhileRead::new(io::stdout());
-    out.write_all(text.as_bytes())?;
-    out.flush()?;
-    Ok(Status::Read)
+    let recording = match Recording::open(&options.folder) {
+        Ok(recording) => recording,
+        Err(unreadable) => return complain(&format!("cannot read {}: {}", unreadable.path.display(), unreadable.why)),
+    };
+    match show(&recording, &options) {
+        Ok(status) => status,
+        // Whoever reads the output has seen enough.
+        Err(why) if why.kind() == io::ErrorKind::BrokenPipe => Status::Read,
+        Err(why) => complain(&format!("cannot write: {why}")),
+    }
 }
 
 fn complain(wrong: &str) -> Status {
@@ -82,8 +73,7 @@ fn show(recording: &Recording, options: &Options) -> io::Result<Status> {
     let shared = out.is_terminal() && !options.summary;
     let total = recording.client.len() + recording.daemon.len();
     let mut progress = Progress::new(io::stderr().is_terminal().then(io::stderr), shared, total);
-    let out = BufWriter::new(WhileRead::new(out.lock()));
-    tell(&recording.client, &recording.daemon, options, style, out, &mut progress)
+    tell(&recording.client, &recording.daemon, options, style, BufWriter::new(out.lock()), &mut progress)
 }
 
 /// Tells a session as the options ask for.
@@ -114,10 +104,10 @@ pub fn tell(
 
 fn view<'a>(client: &'a [u8], daemon: &'a [u8], options: &Options, style: Style, out: impl Write + 'a) -> Box<dyn View + 'a> {
     match (options.summary, options.json) {
-        (false, None) => Box::new(Words::new(out, style, client, daemon)),
-        (false, Some(numbers)) => Box::new(Lines::new(out, numbers)),
-        (true, None) => Box::new(Summary::new(out, Form::Words(style), client, daemon)),
-        (true, Some(numbers)) => Box::new(Summary::new(out, Form::Json(numbers), client, daemon)),
+        (false, false) => Box::new(Words::new(out, style, client, daemon)),
+        (false, true) => Box::new(json::Json::new(out)),
+        (true, false) => Box::new(Summary::new(out, Form::Words(style), client, daemon)),
+        (true, true) => Box::new(Summary::new(out, Form::Json, client, daemon)),
     }
 }
 
@@ -127,8 +117,6 @@ fn after(event: &Event) -> Status {
         Event::Stop(Stop::Refused(_)) => Status::Refused,
         Event::Stop(Stop::Unfollowed(_)) => Status::Unfollowed,
         Event::Stop(Stop::Unended(_)) => Status::Unended,
-        Event::End(end) if !end.left.is_empty() => Status::LeftOver,
-        Event::End(end) if !end.uncertain.is_empty() => Status::Uncertain,
         Event::Handshake(_) | Event::Call(_) | Event::End(_) => Status::Read,
     }
 }

@@ -1,7 +1,7 @@
 //! The library's readers, with framed payload left where it stands: a payload may be of gigabytes, and only its size and first bytes are shown.
 //!
 //! A reader that is lent no payload room refuses by 5 at the place where a payload begins. What stands before that place is read with an empty payload
-//! behind it, and the payload is skipped.
+//! behind it, and the payload is passed over.
 use lintelow::{raw, wire, with_room, Mode, OpCall, Refusal, ResultData, Version};
 
 /// How many of a payload's first bytes are kept.
@@ -52,7 +52,7 @@ fn apart<T>(
             Ok(Read { value, end, payload: Payload::default() })
         }
         Judged::PayloadAt(place) => {
-            let (payload, end) = skip_payload(stream, place)?;
+            let (payload, end) = pass_payload(stream, place)?;
             let empty_payload = 0u64.to_le_bytes();
             let (value, _) = read(&[&stream[..place], &empty_payload].concat())?;
             Ok(Read { value, end, payload })
@@ -67,7 +67,7 @@ enum Judged {
 }
 
 /// The payload that begins at a place, and where it ends.
-fn skip_payload(stream: &[u8], start: usize) -> Result<(Payload, usize), Refusal> {
+fn pass_payload(stream: &[u8], start: usize) -> Result<(Payload, usize), Refusal> {
     let (size, end) = wire::skip_framed(stream, start)?;
     let mut first = Vec::new();
     let mut at = start;

@@ -1,6 +1,6 @@
 //! Names for display, and for a call that is asked for by its name. Which numbers are operations is the library's to say.
 
-pub const OPERATIONS: [(u64, &str); 37] = [
+const OPERATIONS: [(u64, &str); 37] = [
     (1, "IsValidPath"),
     (6, "QueryReferrers"),
     (7, "AddToStore"),

@@ -1,17 +1,24 @@
 //! The command line.
-use crate::object::Numbers;
-use crate::text;
 use lintelow::Mode;
 use std::ffi::OsString;
 use std::path::PathBuf;
 
-const USAGE: &str = include_str!("../usage.txt");
-const VERSION: &str = concat!(env!("CARGO_PKG_NAME"), " ", env!("CARGO_PKG_VERSION"), "\n");
+pub const USAGE: &str = "\
+usage: show [--json] [--summary] [--full] [--ported] [FOLDER]
+
+Shows a recorded session between a Nix client and its daemon. FOLDER has client.bin and daemon.bin, the bytes that each of them sent.
+
+  --json      one JSON object a line, as docs/SHOW.md says
+  --summary   counts by operation, bytes and refusals, and the errors; with --json as JSON
+  --full      in words: nothing is shortened or left out
+  --ported    reads arguments and errors as nix-wire does, not as daemons do
+
+Exit status: 0 the session was read to its end; 1 a refusal; 2 a file or the command line; 3 a call that can't be followed; 4 messages not ended.
+";
 
 #[derive(Debug, Default, PartialEq, Eq)]
 pub struct Options {
-    /// JSON in place of words.
-    pub json: Option<Numbers>,
+    pub json: bool,
     pub summary: bool,
     pub full: bool,
     pub ported: bool,
@@ -31,31 +38,22 @@ impl Options {
 #[derive(Debug, PartialEq, Eq)]
 pub enum Command {
     Show(Options),
-    Print(&'static str),
+    Help,
 }
 
 /// The command that the words say, or what is wrong with them.
 pub fn parse(words: impl Iterator<Item = OsString>) -> Result<Command, String> {
     let mut options = Options::default();
     let mut folder = None;
-    let mut options_ended = false;
     for word in words {
-        let text = word.to_string_lossy();
-        match &*text {
-            option if option.starts_with('-') && !options_ended => match option {
-                "--json" => options.json = Some(Numbers::Plain),
-                "--json=text" => options.json = Some(Numbers::AsText),
-                "--summary" => options.summary = true,
-                "--full" => options.full = true,
-                "--ported" => options.ported = true,
-                // The script ./show has done what this asks for.
-                "--proved" => (),
-                "--help" | "-h" => return Ok(Command::Print(USAGE)),
-                "--version" => return Ok(Command::Print(VERSION)),
-                "--" => options_ended = true,
-                _ => return Err(format!("there is no option {}; --help lists them", text::quoted(option))),
-            },
-            _ if folder.is_some() => return Err(format!("one folder only, and not {} too", text::quoted(&text))),
+        match word.to_str() {
+            Some("--json") => options.json = true,
+            Some("--summary") => options.summary = true,
+            Some("--full") => options.full = true,
+            Some("--ported") => options.ported = true,
+            Some("--help" | "-h") => return Ok(Command::Help),
+            Some(unknown) if unknown.starts_with('-') => return Err(format!("there is no option {unknown:?}; --help lists them")),
+            _ if folder.is_some() => return Err(format!("one folder only, and not {word:?} too")),
             _ => folder = Some(PathBuf::from(word)),
         }
     }
@@ -71,48 +69,17 @@ mod tests {
         parse(words.iter().map(OsString::from))
     }
 
-    fn shown(words: &[&str]) -> Options {
-        match parsed(words) {
-            Ok(Command::Show(options)) => options,
-            other => panic!("{other:?}"),
-        }
-    }
-
     #[test]
     fn options_and_a_folder_in_any_order() {
-        let options = Options { json: Some(Numbers::Plain), summary: true, ported: true, full: false, folder: "here".into() };
-        assert_eq!(shown(&["--json", "--ported", "here", "--summary"]), options);
-        assert_eq!(shown(&["here", "--json=text"]).json, Some(Numbers::AsText));
-        assert_eq!(shown(&["--proved", "here"]), Options { folder: "here".into(), ..Options::default() });
-    }
-
-    #[test]
-    fn texts_that_are_printed() {
-        assert_eq!(parsed(&["here", "--help"]), Ok(Command::Print(USAGE)));
-        assert_eq!(parsed(&["--version"]), Ok(Command::Print("lintelow-show 0.0.0\n")));
-    }
-
-    #[test]
-    fn words_behind_the_end_of_options() {
-        assert_eq!(shown(&["--full", "--", "--json"]), Options { full: true, folder: "--json".into(), ..Options::default() });
-        assert_eq!(shown(&["--", "--"]).folder, PathBuf::from("--"));
-        assert!(parsed(&["--"]).unwrap_err().contains("name a folder"));
+        let options = Options { json: true, summary: true, ported: true, full: false, folder: "here".into() };
+        assert_eq!(parsed(&["--json", "--ported", "here", "--summary"]), Ok(Command::Show(options)));
+        assert_eq!(parsed(&["here", "--help"]), Ok(Command::Help));
     }
 
     #[test]
     fn what_is_wrong_is_said() {
-        assert_eq!(parsed(&[]).unwrap_err(), "name a folder that has client.bin and daemon.bin");
-        assert_eq!(parsed(&["--jason", "here"]).unwrap_err(), "there is no option \"--jason\"; --help lists them");
-        assert_eq!(parsed(&["--json=\u{1b}[31m"]).unwrap_err(), "there is no option \"--json=\\u{1b}[31m\"; --help lists them");
-        assert_eq!(parsed(&["here", "there"]).unwrap_err(), "one folder only, and not \"there\" too");
-        assert_eq!(parsed(&["here", ""]).unwrap_err(), "one folder only, and not \"\" too");
-    }
-
-    #[test]
-    fn the_usage_fits_a_terminal_and_has_every_option() {
-        assert!(USAGE.lines().all(|line| line.chars().count() <= text::WIDTH));
-        for option in ["--json", "--json=text", "--summary", "--full", "--ported", "--proved", "--help", "--version", "--"] {
-            assert!(USAGE.lines().any(|line| line.split_whitespace().next() == Some(option)), "{option}");
-        }
+        assert!(parsed(&[]).unwrap_err().contains("name a folder"));
+        assert!(parsed(&["--jason", "here"]).unwrap_err().contains("--jason"));
+        assert!(parsed(&["here", "there"]).unwrap_err().contains("there"));
     }
 }

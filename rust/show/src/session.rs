@@ -1,9 +1,7 @@
 //! The order of a session: a handshake; then for each call the operation's number and its arguments from the client, and from the daemon its messages
 //! and a reply or an error. What each of them says, and where it ends, is the library's to say.
 use crate::library::{self, Payload};
-use crate::magic::Hint;
 use lintelow::{wire, ErrorInfo, HandshakeInfo, Mode, OpCall, Refusal, ResultData, StderrCode, Version};
-use std::mem;
 use std::ops::Range;
 
 /// Bytes of one of the streams, by their places.
@@ -33,7 +31,7 @@ pub enum Event {
     End(End),
 }
 
-/// Why a session is read no further.
+/// Why a session is not read to its end.
 #[derive(Debug)]
 pub enum Stop {
     Refused(Refused),
@@ -63,11 +61,6 @@ pub struct Call {
 }
 
 impl Call {
-    /// Whether all of it was read: arguments, messages, and a reply or an error, which is the last.
-    pub fn is_whole(&self) -> bool {
-        self.outcome.is_some()
-    }
-
     /// The call with its error alone, where it failed.
     pub fn failed(&self) -> Option<Call> {
         let Some(Outcome::Error { bytes, info }) = &self.outcome else { return None };
@@ -122,10 +115,9 @@ pub struct Refused {
     pub refusal: Refusal,
     /// Of a string that is no text: its beginning that is, up to the place.
     pub good: Option<Bytes>,
-    pub hint: Option<Hint>,
 }
 
-/// A call whose arguments the library does not read, so that the place of what comes after it isn't known.
+/// A call whose arguments the library does not read: what comes after it can't be placed.
 #[derive(Debug)]
 pub struct Unfollowed {
     pub call: u64,
@@ -153,12 +145,9 @@ pub struct End {
     pub calls: u64,
     /// Bytes of the daemon's stream that belong to no call.
     pub left: Bytes,
-    /// The calls with a reply that is read to its end, and is known to mean something else to daemons.
-    pub uncertain: Vec<u64>,
 }
 
 const BAD_TEXT: u64 = 3;
-const BAD_MAGIC: [u64; 2] = [6, 7];
 const UNKNOWN_OPERATION: u64 = 9;
 
 /// A session is read as its events are asked for.
@@ -171,7 +160,6 @@ pub struct Session<'s> {
     answered: usize,
     version: Option<Version>,
     calls: u64,
-    uncertain: Vec<u64>,
     /// Why the session stops, to be told after the call that it was found in.
     stop: Option<Stop>,
     over: bool,
@@ -179,7 +167,7 @@ pub struct Session<'s> {
 
 impl<'s> Session<'s> {
     pub fn new(mode: Mode, client: &'s [u8], daemon: &'s [u8]) -> Session<'s> {
-        Session { mode, client, daemon, said: 0, answered: 0, version: None, calls: 0, uncertain: Vec::new(), stop: None, over: false }
+        Session { mode, client, daemon, said: 0, answered: 0, version: None, calls: 0, stop: None, over: false }
     }
 
     /// How many bytes of both streams were read.
@@ -201,8 +189,7 @@ impl<'s> Session<'s> {
                 } else {
                     (Side::Client, good_text(&refusal, |end| lintelow::parse_handshake(&self.client[..end], self.daemon)))
                 };
-                let hint = Hint::of(self.client, self.daemon).filter(|_| BAD_MAGIC.contains(&refusal.number));
-                Event::Stop(Stop::Refused(Refused { part: Part::Handshake, call: None, op: None, side, place: refusal.place, refusal, good, hint }))
+                Event::Stop(Stop::Refused(Refused { part: Part::Handshake, call: None, op: None, side, place: refusal.place, refusal, good }))
             }
         }
     }
@@ -218,7 +205,7 @@ impl<'s> Session<'s> {
             Err(refusal) => {
                 self.over = true;
                 let (call, side, place) = (Some(self.calls), Side::Client, refusal.place);
-                return Event::Stop(Stop::Refused(Refused { part: Part::Number, call, op: None, side, place, refusal, good: None, hint: None }));
+                return Event::Stop(Stop::Refused(Refused { part: Part::Number, call, op: None, side, place, refusal, good: None }));
             }
         };
         let mut call = Call { index: self.calls, op, version, number: start..self.said, arguments: None, messages: None, outcome: None };
@@ -275,10 +262,6 @@ impl<'s> Session<'s> {
         let start = self.answered;
         let read = self.read(call, Part::Reply, start, |stream| library::read_daemon_result(call.op, call.version, stream))?;
         self.answered = start + read.end;
-        // Daemons send the paths and then the bytes freed. Where there are no paths, that is as long as what is read.
-        if self.mode == Mode::Published && matches!(read.value, ResultData::CollectGarbage { .. }) {
-            self.uncertain.push(call.index);
-        }
         Ok(Outcome::Reply { bytes: start..self.answered, data: read.value, payload: read.payload })
     }
 
@@ -290,8 +273,7 @@ impl<'s> Session<'s> {
         };
         reader(stream).map_err(|refusal| {
             let good = good_text(&refusal, |end| reader(&stream[..end])).map(|good| start + good.start..start + good.end);
-            let (call, op, place) = (Some(call.index), Some(call.op), start + refusal.place);
-            Stop::Refused(Refused { part, call, op, side, place, refusal, good, hint: None })
+            Stop::Refused(Refused { part, call: Some(call.index), op: Some(call.op), side, place: start + refusal.place, refusal, good })
         })
     }
 }
@@ -320,7 +302,7 @@ impl Iterator for Session<'_> {
             Some(version) if self.said < self.client.len() => Some(self.next_call(version)),
             Some(_) => {
                 self.over = true;
-                Some(Event::End(End { calls: self.calls, left: self.answered..self.daemon.len(), uncertain: mem::take(&mut self.uncertain) }))
+                Some(Event::End(End { calls: self.calls, left: self.answered..self.daemon.len() }))
             }
         }
     }

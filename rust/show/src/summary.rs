@@ -1,22 +1,11 @@
 //! Counts by operation, bytes and what was refused; the errors of calls that failed.
-use crate::json;
+use crate::json::{self, Object};
 use crate::names;
-use crate::object::{Json, Numbers, Object};
 use crate::session::*;
-use crate::text::WIDTH;
 use crate::view::View;
 use crate::words::{Style, Words};
-use std::array;
 use std::collections::BTreeMap;
 use std::io::{self, Write};
-
-const COLUMNS: usize = 8;
-const HEADINGS: [&str; COLUMNS] = ["op", "name", "calls", "errors", "refused", "arguments", "messages", "replies"];
-const NAME: usize = 1;
-/// The first of the columns that count bytes.
-const BYTES: usize = 5;
-
-type Row = [String; COLUMNS];
 
 #[derive(Default)]
 struct Counts {
@@ -55,21 +44,12 @@ impl Counts {
             ("reply_bytes", self.replies),
         ]
     }
-
-    fn row(&self, op: String, name: &str) -> Row {
-        let [calls, errors, refused, arguments, messages, replies] = self.named().map(|(_, count)| count.to_string());
-        [op, name.to_owned(), calls, errors, refused, arguments, messages, replies]
-    }
-
-    fn told<'a>(&self, object: Object<'a>) -> Object<'a> {
-        self.named().into_iter().fold(object, |object, (name, count)| object.with(name, count))
-    }
 }
 
 /// How a summary is written, once the session is over.
 pub enum Form {
     Words(Style),
-    Json(Numbers),
+    Json,
 }
 
 pub struct Summary<'s, W> {
@@ -88,40 +68,35 @@ impl<'s, W: Write> Summary<'s, W> {
         Summary { out, form, client, daemon, operations: BTreeMap::new(), all: Counts::default(), failed: Vec::new() }
     }
 
-    /// A row for each operation, and the sums. The columns are as wide as what they hold, and closer together where a terminal is too narrow.
-    fn table(&self) -> Vec<String> {
-        let mut rows = vec![HEADINGS.map(str::to_owned)];
-        rows.extend(self.operations.iter().map(|(op, counts)| counts.row(op.to_string(), names::operation(*op))));
-        rows.push(self.all.row(String::new(), "all"));
-        let widths: [usize; COLUMNS] = array::from_fn(|column| rows.iter().map(|row| row[column].len()).max().unwrap_or(0));
-        let room = WIDTH.saturating_sub(widths.iter().sum());
-        let gap = if room < 2 * (COLUMNS - 1) { " " } else { "  " };
-        let before: usize = widths[..BYTES].iter().map(|width| width + gap.len()).sum();
-        let lines = rows.iter().map(|row| aligned(row, &widths).join(gap));
-        [format!("{:before$}bytes of", "")].into_iter().chain(lines).collect()
+    fn table(&mut self) -> io::Result<()> {
+        writeln!(
+            self.out,
+            "{:>4} {:<28}{:>9}{:>9}{:>9}{:>16}{:>15}{:>13}",
+            "op", "name", "calls", "errors", "refused", "argument bytes", "message bytes", "reply bytes"
+        )?;
+        for (op, counts) in &self.operations {
+            row(&mut self.out, &op.to_string(), names::operation(*op), counts)?;
+        }
+        row(&mut self.out, "", "all", &self.all)
     }
 
-    fn object(&self) -> Object<'_> {
-        let operation = |(op, counts): (&u64, &Counts)| counts.told(json::with_op(Object::new(), *op));
-        json::first(json::named("summary"))
-            .with("operations", self.operations.iter().map(operation).collect::<Json>())
-            .with("all", self.all.told(Object::new()))
-            .with("failed", self.failed.iter().map(json::failed).collect::<Json>())
-            .with("client_bytes", self.client.len())
-            .with("daemon_bytes", self.daemon.len())
+    fn object(&self) -> String {
+        let told = |object: Object, counts: &Counts| counts.named().into_iter().fold(object, |object, (name, count)| object.number(name, count));
+        let operation = |(op, counts): (&u64, &Counts)| told(Object::new().number("op", *op).text("name", names::operation(*op)), counts).close();
+        Object::new()
+            .text("event", "summary")
+            .raw("operations", &json::list(self.operations.iter().map(operation)))
+            .raw("all", &told(Object::new(), &self.all).close())
+            .raw("failed", &json::list(self.failed.iter().map(json::failed)))
+            .number("client_bytes", self.client.len() as u64)
+            .number("daemon_bytes", self.daemon.len() as u64)
+            .close()
     }
 }
 
-/// Names begin where their column does, and numbers end where it ends.
-fn aligned(row: &Row, widths: &[usize; COLUMNS]) -> Row {
-    array::from_fn(|column| {
-        let (cell, width) = (&row[column], widths[column]);
-        if column == NAME {
-            format!("{cell:<width$}")
-        } else {
-            format!("{cell:>width$}")
-        }
-    })
+fn row(out: &mut impl Write, op: &str, name: &str, counts: &Counts) -> io::Result<()> {
+    let Counts { calls, errors, refused, arguments, messages, replies } = counts;
+    writeln!(out, "{op:>4} {name:<28}{calls:>9}{errors:>9}{refused:>9}{arguments:>16}{messages:>15}{replies:>13}")
 }
 
 impl<W: Write> View for Summary<'_, W> {
@@ -136,15 +111,14 @@ impl<W: Write> View for Summary<'_, W> {
             }
             last => match self.form {
                 Form::Words(style) => {
-                    let table = self.table();
-                    table.iter().try_for_each(|line| writeln!(self.out, "{line}"))?;
-                    let mut words = Words::new(&mut self.out, style, self.client, self.daemon).below();
+                    self.table()?;
+                    let mut words = Words::new(&mut self.out, style, self.client, self.daemon);
                     self.failed.iter().try_for_each(|call| words.call(call))?;
                     words.event(last)
                 }
-                Form::Json(numbers) => {
-                    let summary = self.object().written(numbers);
-                    writeln!(self.out, "{summary}\n{}", json::object(last).written(numbers))
+                Form::Json => {
+                    let summary = self.object();
+                    writeln!(self.out, "{summary}\n{}", json::line(last))
                 }
             },
         }
@@ -152,50 +126,5 @@ impl<W: Write> View for Summary<'_, W> {
 
     fn flush(&mut self) -> io::Result<()> {
         self.out.flush()
-    }
-}
-
-#[cfg(test)]
-mod tests {
-    use super::*;
-
-    fn summary(operations: impl Iterator<Item = u64>, bytes: u64) -> Vec<String> {
-        let mut summary = Summary::new(Vec::new(), Form::Words(Style::default()), &[], &[]);
-        let counts = || Counts { calls: 2000, errors: 100, refused: 1, arguments: bytes, messages: bytes, replies: bytes };
-        summary.operations = operations.map(|op| (op, counts())).collect();
-        let count = summary.operations.len() as u64;
-        let Counts { calls, errors, refused, arguments, messages, replies } = counts();
-        summary.all = Counts {
-            calls: count * calls,
-            errors: count * errors,
-            refused: count * refused,
-            arguments: count * arguments,
-            messages: count * messages,
-            replies: count * replies,
-        };
-        summary.table()
-    }
-
-    #[test]
-    fn every_operation_fits_a_terminal() {
-        let table = summary(names::OPERATIONS.iter().map(|(op, _)| *op), 2_000_000);
-        assert_eq!(table.len(), 37 + 3);
-        assert!(table.iter().all(|line| line.len() <= WIDTH), "{table:#?}");
-        assert!(table[1..].iter().all(|line| line.len() == table[1].len()), "{table:#?}");
-        assert_eq!(table[0].find("bytes of"), table[1].find("arguments"));
-    }
-
-    #[test]
-    fn columns_are_as_wide_as_what_they_hold() {
-        assert_eq!(
-            summary([9, 13].into_iter(), 5_000_000_000),
-            [
-                "                                        bytes of",
-                "op  name        calls  errors  refused    arguments     messages      replies",
-                " 9  BuildPaths   2000     100        1   5000000000   5000000000   5000000000",
-                "13  SyncWithGC   2000     100        1   5000000000   5000000000   5000000000",
-                "    all          4000     200        2  10000000000  10000000000  10000000000",
-            ]
-        );
     }
 }

@@ -2,39 +2,13 @@
 
 /// A string is shortened beyond this many characters.
 pub const LONGEST: usize = 120;
-/// The columns of a terminal.
-pub const WIDTH: usize = 80;
-
-/// A count before its noun: "1 call", "2 calls".
-pub fn counted(count: u64, noun: &str) -> String {
-    let plural = if count == 1 { "" } else { "s" };
-    format!("{count} {noun}{plural}")
-}
-
-/// The text in lines of at most so many characters, broken at spaces. A word that is longer has a line of its own.
-pub fn broken(text: &str, width: usize) -> Vec<String> {
-    let mut lines: Vec<String> = Vec::new();
-    for word in text.split(' ') {
-        match lines.last_mut() {
-            Some(line) if line.chars().count() + 1 + word.chars().count() <= width => line.extend([" ", word]),
-            _ => lines.push(word.to_owned()),
-        }
-    }
-    lines
-}
 
 /// The string as it is where that is plain to see, else in quotes with escapes.
 pub fn visible(text: &str) -> String {
     let plain = |c: char| !c.is_whitespace() && !is_hidden(c) && c != '"' && c != '\\';
     if !text.is_empty() && text.chars().all(plain) {
-        text.to_owned()
-    } else {
-        quoted(text)
+        return text.to_owned();
     }
-}
-
-/// The string in quotes, with escapes for what can't be seen.
-pub fn quoted(text: &str) -> String {
     let mut quoted = String::from('"');
     for c in text.chars() {
         match c {
@@ -56,10 +30,10 @@ pub fn shortened(text: &str) -> String {
         return visible(text);
     }
     if text.starts_with('/') {
-        format!("{} ({})", ending(text), counted(text.len() as u64, "byte"))
+        format!("{} ({} bytes)", ending(text), text.len())
     } else {
         let beginning: String = text.chars().take(LONGEST).collect();
-        format!("{}… ({})", visible(&beginning), counted(text.len() as u64, "byte"))
+        format!("{}… ({} bytes)", visible(&beginning), text.len())
     }
 }
 
@@ -98,25 +72,6 @@ mod tests {
         assert_eq!(visible(""), "\"\"");
         assert_eq!(visible("a b"), "\"a b\"");
         assert_eq!(visible("\"\\"), "\"\\\"\\\\\"");
-    }
-
-    #[test]
-    fn quotes_in_any_case() {
-        assert_eq!(quoted("plain"), "\"plain\"");
-        assert_eq!(quoted("\u{1b}\""), "\"\\u{1b}\\\"\"");
-    }
-
-    #[test]
-    fn one_and_many() {
-        assert_eq!([0, 1, 2].map(|count| counted(count, "call")), ["0 calls", "1 call", "2 calls"]);
-    }
-
-    #[test]
-    fn lines_are_broken_at_spaces() {
-        assert_eq!(broken("one two three", 7), ["one two", "three"]);
-        assert_eq!(broken("one two three", 6), ["one", "two", "three"]);
-        assert_eq!(broken("öne twö", 7), ["öne twö"]);
-        assert_eq!(broken("a longword b", 4), ["a", "longword", "b"]);
     }
 
     #[test]

