@@ -4,7 +4,7 @@ use probe_by_number::{Call, lent};
 const HEAD: usize = 56;
 
 // Of a and b the lengths: they stand in the streams, b behind a.
-#[derive(Drop)]
+#[derive(Clone, Copy)]
 pub struct Request {
     pub call: Call,
     pub slots: usize,

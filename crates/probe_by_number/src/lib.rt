@@ -15,7 +15,7 @@ pub const ENTRY_VIEW: u64 = 32;
 const RECORD: usize = 120;
 
 // `operation` is also the number that a call takes.
-#[derive(Drop)]
+#[derive(Clone, Copy)]
 pub struct Call {
     pub mode: u8,
     pub number: u64,

@@ -8,14 +8,14 @@ use protocol::Arguments;
 use walk_judge::{Answer, Outcome};
 use walk_strings::Passed;
 
-#[derive(Drop)]
+#[derive(Clone, Copy)]
 struct Version {
     major: u16,
     minor: u8,
 }
 
 // What is shown of an answer: the refusal's number, 0 for none, and its place; else kind, end, entries and payload.
-#[derive(Drop)]
+#[derive(Clone, Copy)]
 struct Seen {
     which: u64,
     place: usize,

@@ -6,7 +6,7 @@ use probe_by_number::{Call, lent};
 const LONG: u8 = 255;
 
 // Of a, b and the answer the places.
-#[derive(Drop)]
+#[derive(Clone, Copy)]
 pub struct Request {
     pub call: Call,
     pub slots: usize,

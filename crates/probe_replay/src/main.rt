@@ -18,7 +18,7 @@ const ROOM: usize = 4096;
 const BLOCK: usize = 200;
 
 // `first` is the first request that differs, counted from 0; without one it is no request's number.
-#[derive(Drop)]
+#[derive(Clone, Copy)]
 struct Tally {
     requests: u64,
     same: u64,

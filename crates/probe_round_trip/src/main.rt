@@ -308,6 +308,7 @@ fn call_again(mode: Mode, op: u64, minor: u8, a: Answer, out: &[u8], found: &[u6
     tell(b"kind ", a.kind);
     tell(b"ends ", a.ends as u64);
     tell(b"strings ", record.entries as u64);
+    let payload = record.payload;
     let mut again = [0u8; CALL];
     written(writers_calls::write_op_args(
         mode,
@@ -317,7 +318,7 @@ fn call_again(mode: Mode, op: u64, minor: u8, a: Answer, out: &[u8], found: &[u6
         record,
         out,
         found,
-        first(room, record.payload),
+        first(room, payload),
         &mut again,
     ));
     compared(out, &again);

@@ -74,7 +74,7 @@ fn show_line(line: &[u8]) {
     if byte_at(line, 0) == b'/' {
         return;
     }
-    let colon = bytes::scan::find(line, 0, line.len(), b':');
+    let colon = line.iter().position(|&b| b == b':').unwrap_or(line.len());
     let behind = colon + 2;
     if line.len() < behind {
         io::write_all(1, line);
