@@ -8,7 +8,7 @@ use lib.ListN.{length, drop}
 use contract.Lifetimes.{Lfts}
 use borrow.Fn.Kinds.{Dens, ended_of}
 use denote.Triple.Clauses.{AtExit}
-use denote.Ref.{Bor}
+use denote.Ref.{Bor, MutBor}
 use Rattle.layouts.specs.Primitive.{Version, version, Result, ok}
 use Rattle.layouts.specs.Shape.{Tree, as_count, kept, set, framed}
 use Rattle.layouts.specs.Pieces.{Pieces, run, total_of}
@@ -65,17 +65,17 @@ use Rattle.lintelow.proofs.reads.lintelow_read_framed.Kinds as read-framed-kinds
 -- ---- what is lent, by name; the rooms and the block of the arguments a at entry and of x at exit alike
 -- the calls on arguments and replies, which have an operation, a version and a stream before
 module _ {A B C D E : Type 0} where
-  abbrev pub entries_at : A × (B × (C × (D × (Bor (List ℕ) × E)))) → List ℕ
+  abbrev pub entries_at : A × (B × (C × (D × (MutBor (List ℕ) × E)))) → List ℕ
   entries_at a = a.1.1.1.1.0.now
 
-  abbrev pub payload_at : A × (B × (C × (D × (Bor (List ℕ) × (Bor (List ℕ) × E))))) → List ℕ
+  abbrev pub payload_at : A × (B × (C × (D × (MutBor (List ℕ) × (MutBor (List ℕ) × E))))) → List ℕ
   payload_at a = a.1.1.1.1.1.0.now
 
-  abbrev pub block_at : A × (B × (C × (D × (Bor (List ℕ) × (Bor (List ℕ) × (Bor (List ℕ) × E)))))) → List ℕ
+  abbrev pub block_at : A × (B × (C × (D × (MutBor (List ℕ) × (MutBor (List ℕ) × (MutBor (List ℕ) × E)))))) → List ℕ
   block_at a = a.1.1.1.1.1.1.0.now
 
   -- the skipper's
-  abbrev pub skip_block : A × (B × (C × (D × (Bor (List ℕ) × E)))) → List ℕ
+  abbrev pub skip_block : A × (B × (C × (D × (MutBor (List ℕ) × E)))) → List ℕ
   skip_block a = a.1.1.1.1.0.now
 
 -- the calls on arguments have a mode before all that
@@ -86,22 +86,22 @@ context_at a = record { mode = mode_of a.0; op = op_of a.1; spoken = version_of 
 abbrev pub error_at : {A : Type 0} → Lent A → ℕ
 error_at a = error_asked a.0 a.1.0 a.1.1.0
 
-abbrev pub error_block : {A B C D E : Type 0} → A × (B × (C × (D × (Bor (List ℕ) × (Bor (List ℕ) × E))))) → List ℕ
+abbrev pub error_block : {A B C D E : Type 0} → A × (B × (C × (D × (MutBor (List ℕ) × (MutBor (List ℕ) × E))))) → List ℕ
 error_block a = a.1.1.1.1.1.0.now
 
 -- the other calls: one room, and the block behind it. Before it stand both streams, or a stream and a place; a version and a stream
 module _ {A B C : Type 0} where
-  abbrev pub room_of : A × (B × (Bor (List ℕ) × C)) → List ℕ
+  abbrev pub room_of : A × (B × (MutBor (List ℕ) × C)) → List ℕ
   room_of a = a.1.1.0.now
 
-  abbrev pub room_block : A × (B × (Bor (List ℕ) × (Bor (List ℕ) × C))) → List ℕ
+  abbrev pub room_block : A × (B × (MutBor (List ℕ) × (MutBor (List ℕ) × C))) → List ℕ
   room_block a = a.1.1.1.0.now
 
 module _ {A B C D : Type 0} where
-  abbrev pub daemon_room : A × (B × (C × (Bor (List ℕ) × D))) → List ℕ
+  abbrev pub daemon_room : A × (B × (C × (MutBor (List ℕ) × D))) → List ℕ
   daemon_room a = a.1.1.1.0.now
 
-  abbrev pub daemon_block : A × (B × (C × (Bor (List ℕ) × (Bor (List ℕ) × D)))) → List ℕ
+  abbrev pub daemon_block : A × (B × (C × (MutBor (List ℕ) × (MutBor (List ℕ) × D)))) → List ℕ
   daemon_block a = a.1.1.1.1.0.now
 
 -- ---- demand 1. Of each call, `-refused`: a nonzero number returned leaves the lent rooms as they were; `-written`: whatever it returns, all bytes of a room behind

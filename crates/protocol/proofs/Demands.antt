@@ -7,7 +7,7 @@ use lib.ListN.{length, drop}
 use contract.Lifetimes.{Lfts}
 use borrow.Fn.Kinds.{Dens, ended_of}
 use denote.Triple.Clauses.{AtExit}
-use denote.Ref.{Bor}
+use denote.Ref.{Bor, MutBor}
 use Rattle.layouts.specs.declared.Mode.{Mode}
 use Rattle.layouts.specs.declared.Record.{Record}
 use Rattle.layouts.specs.declared.Refusal.{Refusal}
@@ -55,10 +55,10 @@ module _ {A : Type 0} where
   abbrev pub stream_of : Lent A → List ℕ
   stream_of a = a.1.1.1.0.now
 
-  abbrev pub entries_at : Lent (Bor (List ℕ) × A) → List ℕ
+  abbrev pub entries_at : Lent (MutBor (List ℕ) × A) → List ℕ
   entries_at a = a.1.1.1.1.0.now
 
-  abbrev pub payload_at : Lent (Bor (List ℕ) × (Bor (List ℕ) × A)) → List ℕ
+  abbrev pub payload_at : Lent (MutBor (List ℕ) × (MutBor (List ℕ) × A)) → List ℕ
   payload_at a = a.1.1.1.1.1.0.now
 
   -- the mode comes first, where a call takes it
@@ -74,10 +74,10 @@ module _ {A : Type 0} where
 
 -- the rooms at exit
 module _ {A B C D E : Type 0} where
-  abbrev pub entries_after : A × (B × (C × (D × (Bor (List ℕ) × E)))) → List ℕ
+  abbrev pub entries_after : A × (B × (C × (D × (MutBor (List ℕ) × E)))) → List ℕ
   entries_after x = x.1.1.1.1.0.now
 
-  abbrev pub payload_after : A × (B × (C × (D × (Bor (List ℕ) × (Bor (List ℕ) × E))))) → List ℕ
+  abbrev pub payload_after : A × (B × (C × (D × (MutBor (List ℕ) × (MutBor (List ℕ) × E))))) → List ℕ
   payload_after x = x.1.1.1.1.1.0.now
 
 -- ---- laws of any tree

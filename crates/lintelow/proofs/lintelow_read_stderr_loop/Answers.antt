@@ -1,0 +1,7 @@
+-- `lintelow::lintelow_read_stderr_loop` meets its contract: the answer of the call is put.
+use Rattle.lintelow_answers.proofs.Guard.{told_number, told_block}
+use Rattle.lintelow.proofs.lintelow_read_stderr_loop.Goals as goal
+
+pub returns : goal.returns
+returns c =
+    record { number = told_number _ _ _ _ c.read_stderr_loop-stopped.ensures c.put.ensures.number; block = told_block _ _ _ _ c.read_stderr_loop-stopped.ensures c.put.ensures.block }

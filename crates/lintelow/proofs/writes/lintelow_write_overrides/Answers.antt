@@ -1,0 +1,10 @@
+-- `lintelow::writes::lintelow_write_overrides` meets its contract: a short block is refused, else the answer of the call is put.
+use Rattle.lintelow_answers.proofs.Guard.{write_short, write_long}
+use Rattle.lintelow.proofs.writes.lintelow_write_overrides.Goals as goal
+
+pub returns-then-block-lt-BLOCK : goal.returns-then-block-lt-BLOCK
+returns-then-block-lt-BLOCK c = let all = write_short c.args.block.now _ _ _ c.if-block-lt-BLOCK.true in record { number = all.0; block = all.1.0; out = all.1.1 }
+
+pub returns : goal.returns
+returns c = let all = write_long c.args.block.now _ _ _ c.if-block-lt-BLOCK.false c.write_overrides-r.result _ (c.write_overrides-r.ensures.answer, c.write_overrides-r.ensures.lent) _
+    c.write.ensures _ _ (c.put.ensures.number, c.put.ensures.block) in record { number = all.0; block = all.1.0; out = all.1.1 }
