@@ -1,4 +1,4 @@
--- The codes are those of `messageOf`: no code where it has none, terminal where it is.
+-- The codes are those of `message_of`: no code where it has none, terminal where it is.
 use Prim.Native.Nat.{ℕ}
 use mathlib.Core.Path.{◌≡◌, refl, sym, ap, ◌∙◌, subst}
 use mathlib.Core.Logic.{◌↔◌}
@@ -103,7 +103,7 @@ has_number_lem v =
     (λ d c e. let o = of_code d in let z : c ≡ d = cc in ap code_number z)
     (λ f c e. let o = code_none v f in let z : ◌≡◌ {A = ℕ} 0 1 = cc in absurd (omega arith))
 
--- none is found exactly where `messageOf` has no code
+-- none is found exactly where `message_of` has no code
 some_message : (c : StderrCode) → message_of (code_number c) ≡ no_code → ⊥
 unfolding message_of
 some_message Next e = let z : ◌≡◌ {A = ℕ} 0 1 = cc in omega arith
@@ -122,7 +122,7 @@ says_none None e = refl
 pub no_code_lem : (v : ℕ) → (code_of v ≡ None) ↔ (message_of v ≡ no_code)
 no_code_lem v = (λ e. message v ∙ ap says e, λ e. says_none (code_of v) (sym (message v) ∙ e))
 
--- and a code that is found is terminal exactly where `messageOf` is
+-- and a code that is found is terminal exactly where `message_of` is
 ends_terminal : (m : Message) → ends m ≡ true → m ≡ terminal
 ends_terminal no_code e = let z : ◌≡◌ {A = ℕ} 0 1 = cc in absurd (omega arith)
 ends_terminal terminal e = refl

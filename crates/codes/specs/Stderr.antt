@@ -1,4 +1,4 @@
--- The codes of the code, by the numbers of the definitions; `proofs/Messages.antt` says that they are `messageOf`'s.
+-- The codes of the code, by the numbers of the definitions; `proofs/Messages.antt` says that they are `message_of`'s.
 use Rattle.std.specs.Prelude.{ℕ, Bool, true, false, eqb}
 use Rattle.layouts.specs.Primitive.{pick}
 use Rattle.layouts.specs.Stderr as Number

@@ -216,7 +216,7 @@ old_lowers Ported v e = rw e (keeps (asks (λ n. asks (λ m. passes stops))))
 old_lowers Published v e = rw e (keeps (asks (λ n. asks (λ m. passes stops))))
 
 -- ---- the calls
--- skipped arguments keep at most one string: the one slot of `skipOpArgs` is room enough
+-- skipped arguments keep at most one string: the one slot of `skip_op_args` is room enough
 pub skipped_keeps : (c : Context) (s : List ℕ) → kept_of (run (skipped_tree c) s 0) ≤ 1
 unfolding skipped_tree run kept_of
 skipped_keeps c s = by (eqb c.op 7) (at_least c.spoken (version 1 25)) refl refl

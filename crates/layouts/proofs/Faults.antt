@@ -170,7 +170,7 @@ module _ (s : List ℕ) (slots room : ℕ) where
       let z = head_size s at n u e in
       ap (judge_of s slots room r) (frames_long s at n (head_number s at n u e h) k (omega arith) l)
 
-  -- 3, at the first ill_formed sequence, whether or not the padding is there
+  -- 3, at the first ill-formed sequence, whether or not the padding is there
   bad_refused : (m : Role) (at x : ℕ) (k : Unit {0} → Tree) (r : Record) (c u : List ℕ) → drop at s ≡ number_bytes (length c) ++ (c ++ u) → length c ≤ limit
       → is_decoded m ≡ true → IllFormedAt x c → judged (say m k) at r ≡ refused bad_text (at + 8 + x) 0
   unfolding judge_of

@@ -47,7 +47,7 @@ record_room r (chunk start len p) = let b = record_room (with_payload r (r.paylo
 record_room r (end place) = (omega arith, omega arith)
 record_room r (fault which place) = (omega arith, omega arith)
 
--- what `notText` and `textEnd` say, in RFC 3629's words
+-- what `not_text` and `text_end` say, in RFC 3629's words
 module _ (s : List ℕ) (m : Role) (start len : ℕ) where
   pub not_bad : not_text s m start len ≡ false → Fine s m start len
   unfolding not_text

@@ -1,5 +1,5 @@
--- The stderr loop: the bound on its messages is no bound, since every message takes a number (`any-bound`); the contents and padding of its messages decide
--- nothing (`soft-stderr`), nor do those of the error block behind it (`soft-read-error`).
+-- The stderr loop: the bound on its messages is no bound, since every message takes a number (`any_bound`); the contents and padding of its messages decide
+-- nothing (`soft_stderr`), nor do those of the error block behind it (`soft_read_error`).
 use Prim.Native.Nat.{ℕ, zero, suc, ◌+◌, ◌≤◌, ◌<◌}
 use mathlib.Core.Path.{◌≡◌, refl, sym, ◌∙◌, ap}
 use mathlib.Core.List.{List}

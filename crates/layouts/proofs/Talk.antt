@@ -331,7 +331,7 @@ pub daemon_handshake_numbered : (c : Version) (u : List ℕ) (slots : ℕ) → N
 unfolding parse_daemon_handshake
 daemon_handshake_numbered c u slots = onward_numbered (judge_heard [] u slots blank _) _ (hear_numbered [] u slots (daemon_turns FailsBy15 turn_fails_by_15 c) 0 0 blank blank) (λ x. tt)
 
--- ---- what `unlessHeard` says, in RFC 3629's words
+-- ---- what `unless_heard` says, in RFC 3629's words
 module _ {A : Type 0} (s u : List ℕ) where
   turn_verdict : {d : Bool} {p : Pieces} {h : Heard} {o a : Result A} {v : Result (Unit {0})} → Verdict (pick d u s) p (ok tt) v → VerdictHeard s u h o a
       → VerdictHeard s u (heard d p h) o (or_on d v a)

@@ -1,5 +1,5 @@
 -- Demand 3, for every tree and so for every layout: what becomes of skipping, reading and entries where only contents, padding and chunks change, and what
--- `unlessBad` says; at any place, and from the start. That what follows stays as it was is `soft-rest` of Soft.
+-- `unless_bad` says; at any place, and from the start. That what follows stays as it was is `soft_rest` of Soft.
 use Prim.Native.Nat.{ℕ, ◌+◌, ◌*◌, ◌≤◌, ◌<◌}
 use mathlib.Core.Path.{◌≡◌, refl, sym, ◌∙◌, ap}
 use mathlib.Core.List.{List, ◌++◌}

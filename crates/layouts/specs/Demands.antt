@@ -114,7 +114,7 @@ pub data FirstBad (s : List ℕ) : Pieces → (x n : ℕ) → Type 0 where
   after_text : {m : Role} {start len x n : ℕ} {p : Pieces} → Fine s m start len → FirstBad s p x n → FirstBad s (text m start len p) x n
   after_chunk_lem : {start len x n : ℕ} {p : Pieces} → FirstBad s p x n → FirstBad s (chunk start len p) x n
 
--- one of two: o, and every decoded string is text; 3 at the first ill_formed sequence of the first that is not
+-- one of two: o, and every decoded string is text; 3 at the first ill-formed sequence of the first that is not
 pub data Verdict {A : Type 0} (s : List ℕ) (p : Pieces) (o : Result A) : Result A → Type 0 where
   all_text : AllText s p → Verdict s p o o
   first_bad : {x n : ℕ} → FirstBad s p x n → Verdict s p o (refused bad_text (x + n) 0)
@@ -131,7 +131,7 @@ pub data FirstBadHeard (s u : List ℕ) : Heard → (x n stream : ℕ) → Type 
   after_turn : {d : Bool} {p : Pieces} {h : Heard} {x n stream : ℕ} → AllText (pick d u s) p → FirstBadHeard s u h x n stream
       → FirstBadHeard s u (heard d p h) x n stream
 
--- one of two: o, and every decoded string of both streams is text; 3 at the first ill_formed sequence of the first that is not, on its stream
+-- one of two: o, and every decoded string of both streams is text; 3 at the first ill-formed sequence of the first that is not, on its stream
 pub data VerdictHeard {A : Type 0} (s u : List ℕ) (h : Heard) (o : Result A) : Result A → Type 0 where
   all_heard : AllTextHeard s u h → VerdictHeard s u h o o
   first_heard : {x n stream : ℕ} → FirstBadHeard s u h x n stream → VerdictHeard s u h o (refused bad_text (x + n) stream)

@@ -107,7 +107,7 @@ pitfalls =
     ex (seen (read_string_set (N# 1 ++ N# 1 ++ (0xFF ∷ [])) 0 0)) (3 ∷ 16 ∷ []) ∷
     ex (seen (read_string_set (N# 1 ++ N# 1 ++ (0x61 ∷ [])) 0 0)) (1 ∷ 17 ∷ []) ∷
     ex (seen (read_string_set (N# 1 ++ N# 1 ++ (0x61 ∷ replicate 7 0)) 0 0)) (4 ∷ 8 ∷ []) ∷
-    -- 3 at the first ill_formed sequence: behind aé; at the first byte of a character that the string's end cuts, of an overlong form, of a surrogate
+    -- 3 at the first ill-formed sequence: behind aé; at the first byte of a character that the string's end cuts, of an overlong form, of a surrogate
     ex (seen (read_string (N# 5 ++ (0x61 ∷ 0xC3 ∷ 0xA9 ∷ 0xFF ∷ 0x62 ∷ replicate 3 0)) 0)) (3 ∷ 11 ∷ []) ∷
     ex (seen (read_string (N# 3 ++ (0x61 ∷ 0xE2 ∷ 0x82 ∷ replicate 5 0)) 0)) (3 ∷ 9 ∷ []) ∷
     ex (seen (read_string (N# 4 ++ (0x61 ∷ 0xE0 ∷ 0x80 ∷ 0xAF ∷ replicate 4 0)) 0)) (3 ∷ 9 ∷ []) ∷

@@ -20,7 +20,7 @@ not_text s m start len = is_decoded m && not (is_text (take len (drop start s)))
 unfoldable pub text_end : List ℕ → (start len : ℕ) → ℕ
 text_end s start len = start + good_prefix (take len (drop start s))
 
--- a decoded string that is not text is refused by 3, at its first ill_formed sequence; else as given
+-- a decoded string that is not text is refused by 3, at its first ill-formed sequence; else as given
 abbrev pub or_bad : {A : Type 0} → List ℕ → Role → (start len : ℕ) → Result A → Result A
 or_bad s m start len o = pick (not_text s m start len) (refused bad_text (text_end s start len) 0) o
 

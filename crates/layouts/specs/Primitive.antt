@@ -63,7 +63,7 @@ cut_short = 1
 abbrev pub too_long : ℕ
 too_long = 2
 
--- a decoded string isn't RFC 3629 text: at its first ill_formed sequence; writers: the entry's index, 0 for one string
+-- a decoded string isn't RFC 3629 text: at its first ill-formed sequence; writers: the entry's index, 0 for one string
 abbrev pub bad_text : ℕ
 bad_text = 3
 

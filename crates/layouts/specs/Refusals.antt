@@ -49,7 +49,7 @@ pub data Fault (slots room : ℕ) : Tree → (at : ℕ) → Record → List ℕ 
   -- 2: the length is above 268435456; the length
   too_long_there : (t : Tree) (at n : ℕ) (r : Record) (u : List ℕ) → Measured t → limit < n → n < 18446744073709551616
       → Fault slots room t at r (number_bytes n ++ u) too_long at
-  -- 3: a decoded string is not RFC 3629 text; its first ill_formed sequence
+  -- 3: a decoded string is not RFC 3629 text; its first ill-formed sequence
   bad_text_lem : (m : Role) (at n : ℕ) (k : Unit {0} → Tree) (r : Record) (c u : List ℕ) → length c ≤ limit → is_decoded m ≡ true → IllFormedAt n c
       → Fault slots room (say m k) at r (number_bytes (length c) ++ (c ++ u)) bad_text (at + 8 + n)
   -- 4: a kept string has no slot; its length

@@ -1,4 +1,4 @@
--- Views and writers. A writer answers the length of its whole output, or refuses; what it writes is `lentAfter` of its answer and its output.
+-- Views and writers. A writer answers the length of its whole output, or refuses; what it writes is `lent_after` of its answer and its output.
 use Rattle.std.specs.Prelude.{ℕ, zero, suc, ◌+◌, ◌*◌, ◌/◌, ◌%◌, List, [], ◌∷◌, ◌++◌, Bool, ◌&&◌, length, get_or, take, drop, replicate, ltb, leb, eqb}
 use Rattle.text.specs.Prefix.{is_text}
 use Rattle.layouts.specs.Primitive.{pick, number_bytes, pad_of, bad_text, output_full, no_such_entry, bad_entry, Result, ok, refused, onward, same}
@@ -73,7 +73,7 @@ paths_text n = decimal n ++ (0x20 ∷ 0x70 ∷ 0x61 ∷ 0x74 ∷ 0x68 ∷ 0x73 �
 unfoldable pub overrides_text : ℕ → List ℕ
 overrides_text n = decimal n ++ (0x20 ∷ 0x6f ∷ 0x76 ∷ 0x65 ∷ 0x72 ∷ 0x72 ∷ 0x69 ∷ 0x64 ∷ 0x65 ∷ 0x73 ∷ [])
 
--- ---- writers: numbers (`numberBytes`, `littleEnd 4`), bytes (`stringBytes`), framed data and texts refuse by 10 only
+-- ---- writers: numbers (`number_bytes`, `little_end 4`), bytes (`string_bytes`), framed data and texts refuse by 10 only
 unfoldable pub writing : (output lent : List ℕ) → Result ℕ
 writing output lent = pick (leb (length output) (length lent)) (ok (length output)) (refused output_full 0 0)
 

@@ -1,5 +1,5 @@
--- `charLength` against the grammar's `UTF8-char`: where it says n > 0, the first n octets are a character (`begins`); and a list that begins with a
--- character has that character's length (`char-length`).
+-- `char_length` against the grammar's `UTF8-char`: where it says n > 0, the first n octets are a character (`begins`); and a list that begins with a
+-- character has that character's length (`char_length_lem`).
 use Prim.Native.Nat.{ℕ, ◌≤◌, ◌<◌}
 use mathlib.Core.Bool.{Bool, true, false, ◌&&◌, cond}
 use mathlib.Core.List.{List, [], ◌∷◌, ◌++◌}

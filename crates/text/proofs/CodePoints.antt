@@ -1,4 +1,4 @@
--- The characters of section 4 are exactly the encodings of section 3 (`char-encodes`, `encodes-char`), and no two numbers have the same one (`encode-once`).
+-- The characters of section 4 are exactly the encodings of section 3 (`char_encodes`, `encodes_char`), and no two numbers have the same one (`encode_once`).
 use Prim.Native.Nat.{ℕ, ◌+◌, ◌*◌, ◌-◌, ◌/◌, ◌%◌, ◌≤◌, ◌<◌}
 use mathlib.Core.Path.{◌≡◌, refl, sym, ap, ◌∙◌}
 use mathlib.Core.List.{List, [], ◌∷◌}

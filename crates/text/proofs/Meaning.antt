@@ -1,6 +1,6 @@
--- What `goodPrefix` means: the beginning of that length is text (`good-text`), no longer one is (`text-good`), and it is the whole list exactly where
--- the list is text (`whole-text`, `text-whole`), also as a test (`is-text`, `text-is`); else it is where the first ill_formed sequence begins (`ill-formed`,
--- `ill-formed-at`). And the step by which code computes it (`step`, `stuck`).
+-- What `good_prefix` means: the beginning of that length is text (`good_text`), no longer one is (`text_good`), and it is the whole list exactly where
+-- the list is text (`whole_text`, `text_whole`), also as a test (`is_text_lem`, `text_is`); else it is where the first ill-formed sequence begins (`ill_formed`,
+-- `ill_formed_at`). And the step by which code computes it (`step`, `stuck`).
 use Prim.Native.Nat.{ℕ, zero, suc, ◌+◌, ◌≤◌}
 use mathlib.Core.List.{List, [], ◌∷◌, ◌++◌, append_assoc}
 use mathlib.Core.Path.{◌≡◌, refl, sym, ap, ◌∙◌}
@@ -116,7 +116,7 @@ unfolding is_text
 judged_is true s x = sym (text_is s x)
 judged_is false s x = sym (ne_eqb (good_prefix s) (length s) (λ e. x (whole_text s e)))
 
--- ---- what is not text is good up to its first ill_formed sequence
+-- ---- what is not text is good up to its first ill-formed sequence
 pub ill_formed : (s : List ℕ) → is_text s ≡ false → IllFormedAt (good_prefix s) s
 unfolding is_text
 ill_formed s e =

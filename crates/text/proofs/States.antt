@@ -1,4 +1,4 @@
--- What the machine of `text_states` takes from 0 to 0 is text (`run-text`): for each state, what is left to be read from there, by the grammar.
+-- What the machine of `text_states` takes from 0 to 0 is text (`run_text`): for each state, what is left to be read from there, by the grammar.
 use Prim.Native.Nat.{ℕ, ◌+◌, ◌-◌, ◌≤◌}
 use mathlib.Core.Path.{◌≡◌, refl, sym, ◌∙◌}
 use mathlib.Core.Bool.{Bool, true, ◌&&◌}

@@ -48,7 +48,7 @@ abbrev pub Judged : Bool → List ℕ → Type 0
 Judged true s = Text s
 Judged false s = Text s → ⊥
 
--- the first ill_formed sequence begins at n: the octets up to there are text, and no longer beginning is
+-- the first ill-formed sequence begins at n: the octets up to there are text, and no longer beginning is
 pub record IllFormedAt (n : ℕ) (s : List ℕ) : Type 0 where
   pub inside : n < length s
   pub good : Text (take n s)

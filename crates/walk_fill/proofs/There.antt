@@ -1,4 +1,4 @@
--- What `runThere` does at each node, with the reason; and that of a layout that was judged fine it has all pieces.
+-- What `run_there` does at each node, with the reason; and that of a layout that was judged fine it has all pieces.
 use Prim.Native.Nat.{ℕ, zero, suc, ◌+◌, ◌≤◌, ◌<◌}
 use mathlib.Core.Path.{◌≡◌, refl, sym, ◌∙◌, ap}
 use mathlib.Core.List.{List}

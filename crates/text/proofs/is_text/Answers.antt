@@ -1,4 +1,4 @@
--- `text::is_text` meets its contract: `goodPrefix` is the length exactly where the list is text.
+-- `text::is_text` meets its contract: `good_prefix` is the length exactly where the list is text.
 use Prim.Native.Nat.{ℕ}
 use mathlib.Core.Path.{◌≡◌, sym, ◌∙◌}
 use mathlib.Core.List.{List}
