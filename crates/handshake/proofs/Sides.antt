@@ -4,7 +4,6 @@ use mathlib.Core.Path.{◌≡◌, refl, sym, ◌∙◌, ap}
 use mathlib.Core.List.{List, [], ◌++◌}
 use mathlib.Core.Bool.{Bool, true, false}
 use lib.Dec.{eqb, leb}
-use lib.ListN.{set}
 use borrow.Author.Tests.{eq-eqb, ne_eqb}
 use Rattle.layouts.specs.declared.Record.{Record}
 use Rattle.layouts.specs.declared.Refusal.{Refusal}
@@ -20,7 +19,6 @@ use Rattle.table.specs.Table.{groups_at, version_in}
 use Rattle.table.specs.Claims.{others}
 use Rattle.walk_items.specs.Items.{version_of, first_of, layout_tree}
 use Rattle.walk_items.proofs.Trees as Trees
-use Rattle.walk_take.specs.Taking.{ahead}
 use Rattle.walk_fill.specs.There.{run_there, pieces_there}
 use Rattle.walk_judge.specs.declared.Said.{Said}
 use Rattle.walk_judge.specs.Judged.{answer_of, answer_as}

@@ -10,7 +10,7 @@ use denote.Triple.Clauses.{AtExit}
 use Rattle.layouts.specs.Primitive.{Result, refused}
 use Rattle.layouts.specs.Refusal.{plain}
 use Rattle.layouts.specs.Record.{blank}
-use Rattle.layouts.specs.Calls.{Answer, arguments_tree, reply_tree, read_op_args, read_daemon_result, skip_daemon_result}
+use Rattle.layouts.specs.Calls.{Answer, arguments_tree, reply_tree, read_op_args, read_daemon_result}
 use Rattle.layouts.specs.Refusals.{Refuses, lower_case}
 use Rattle.layouts.specs.Demands.{Bytes}
 use Rattle.layouts.proofs.Refusals as L

@@ -14,7 +14,7 @@ use Rattle.layouts.specs.declared.Mode.TheVariants.{Ported, Published}
 use Rattle.layouts.specs.Primitive.{pick, Version, version, at_least, Result, ok, refused, onward}
 use Rattle.layouts.specs.declared.Refusal.{Refusal}
 use Rattle.layouts.specs.Refusal.{refused_by}
-use Rattle.layouts.specs.Shape.{Tree, Group, layout}
+use Rattle.layouts.specs.Shape.{Tree, layout}
 use Rattle.layouts.specs.Pieces.{Pieces, run, end}
 use Rattle.layouts.specs.Judge.{Ended, judge_of, entries_of, lent_after}
 use Rattle.layouts.specs.Calls.{Answer}

@@ -8,11 +8,9 @@ use Rattle.layouts.specs.declared.Mode.TheVariants.{Ported, Published}
 use Rattle.layouts.specs.Primitive.{pick}
 use borrow.Author.Tests.{ne_eqb}
 use Rattle.table.specs.declared.Row.{Row}
-use Rattle.table.specs.declared.Found.{Found}
 use Rattle.table.specs.declared.Found.TheVariants as F
 use Rattle.table.specs.Packed.{rows, published_rows}
 use Rattle.table.specs.Table.{find_in, row_for}
-use Rattle.table_operations.specs.declared.Shape.{Shape}
 use Rattle.table_operations.specs.declared.Shape.TheVariants.{Unknown, At}
 use Rattle.table_operations.specs.Rows.{unpacked, row_of, shape_of}
 

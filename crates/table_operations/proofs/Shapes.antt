@@ -1,6 +1,6 @@
 -- For a caller that has matched on a shape: what it says of its operation.
 use Prim.Native.Nat.{ℕ}
-use mathlib.Core.Path.{◌≡◌, refl, sym, ◌∙◌, ap}
+use mathlib.Core.Path.{◌≡◌, refl, sym, ◌∙◌}
 use mathlib.Core.Bool.{Bool}
 use native.Mathlib.Omega.{arith}
 use Rattle.layouts.specs.declared.Mode.TheVariants.{Ported}

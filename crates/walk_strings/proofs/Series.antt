@@ -20,7 +20,7 @@ use Rattle.pieces.specs.declared.Text as T
 use Rattle.pieces.specs.declared.Text.TheVariants.{Whole, Half, Bad}
 use Rattle.pieces.specs.Pieces.{num_read, text_found}
 use Rattle.pieces.proofs.Numbers.{number_known}
-use Rattle.pieces.proofs.Found.{text_told_lem, text_known, whole_string}
+use Rattle.pieces.proofs.Found.{text_told_lem, whole_string}
 use Rattle.pieces.proofs.Nodes.{whole_found}
 use Rattle.walk_strings.specs.declared.More.{More}
 use Rattle.walk_strings.specs.declared.More.TheVariants as M

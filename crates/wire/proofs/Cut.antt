@@ -15,7 +15,7 @@ use Rattle.layouts.specs.Cut.{CutOrLonger, RefusedAsCut, WholeOnly}
 use Rattle.layouts.proofs.Cut as L
 use Rattle.pieces.specs.Pieces.{Span, span}
 use Rattle.walk_rooms.specs.Rooms.{LentRead, lent_read}
-use Rattle.wire.specs.Answers.{number_read, count_read, total_read, skipped_to, spanned, read_bytes, read_text, set_entries, framed_payload, set_read}
+use Rattle.wire.specs.Answers.{number_read, count_read, total_read, skipped_to, spanned, read_bytes, read_text, framed_payload, set_read}
 use Rattle.wire.specs.declared.Cursor.{Cursor}
 use Rattle.wire.specs.declared.Read.{Read}
 use Rattle.wire.specs.declared.Read.TheVariants as R

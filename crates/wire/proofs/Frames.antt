@@ -11,7 +11,7 @@ use Rattle.layouts.specs.declared.Record.{Record}
 use Rattle.layouts.specs.declared.Refusal.{Refusal}
 use Rattle.layouts.specs.Primitive.{number_at, version, Result, ok, refused, onward}
 use Rattle.layouts.specs.Refusal.{refused_by}
-use Rattle.layouts.specs.Shape.{framed, frames, stop}
+use Rattle.layouts.specs.Shape.{frames, stop}
 use Rattle.layouts.specs.Pieces.{Pieces, Chunk, after_chunk, chunks, end, run, skip_of, total_of}
 use Rattle.layouts.specs.Record.{blank, with_number, with_payload}
 use Rattle.layouts.specs.Judge.{chunk_taken, Ended, judge_of, payload_of, lent_after}

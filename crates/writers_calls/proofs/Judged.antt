@@ -1,6 +1,6 @@
 -- What is judged is what is written: how long the fields are, and that they are the parts of the bytes.
-use Prim.Native.Nat.{ℕ, zero, suc, ◌+◌, ◌-◌, ◌≤◌, ◌<◌}
-use mathlib.Core.Path.{◌≡◌, refl, sym, ◌∙◌, ap, subst}
+use Prim.Native.Nat.{ℕ, zero, suc, ◌+◌, ◌≤◌, ◌<◌}
+use mathlib.Core.Path.{◌≡◌, refl, sym, ◌∙◌, ap}
 use mathlib.Core.List.{List, [], ◌∷◌, ◌++◌, append_assoc}
 use mathlib.Core.Bool.{Bool, true, false}
 use lib.ListN.{length, take, drop, length-append, length-drop, take-append-drop}
@@ -24,7 +24,7 @@ use Rattle.writers_output.specs.Answer.{meaning}
 use Rattle.writers_output.specs.Placed.{placed}
 use Rattle.writers_output.proofs.Laws.{done}
 use Rattle.writers_sets.specs.Sets.{fitting, grown, strings_judged, parts_from}
-use Rattle.writers_sets.proofs.Sets.{grown_fits, texts_parts, length_parts}
+use Rattle.writers_sets.proofs.Sets.{grown_fits, texts_parts}
 use Rattle.writers_fields.specs.declared.Needs.{Needs}
 use Rattle.writers_fields.specs.Fields.{bytes_of, bytes_after}
 use Rattle.writers_calls.specs.Calls.{fields_from, Planned, bytes_or, after_bytes}

@@ -1,14 +1,14 @@
 -- The fields are put item by item: putting what remains gives the same at every turn.
-use Prim.Native.Nat.{ℕ, zero, suc, ◌+◌, ◌-◌, ◌≤◌, ◌<◌}
-use mathlib.Core.Path.{◌≡◌, refl, sym, ◌∙◌, ap, subst}
-use mathlib.Core.List.{List, [], ◌∷◌, ◌++◌}
+use Prim.Native.Nat.{ℕ, ◌+◌, ◌-◌, ◌≤◌, ◌<◌}
+use mathlib.Core.Path.{◌≡◌, refl, sym, ◌∙◌, ap}
+use mathlib.Core.List.{List, [], ◌++◌}
 use mathlib.Core.Bool.{Bool, true, false, ◌&&◌, false≢true}
 use lib.ListN.{length, take, drop, length-append, length-drop}
-use mathlib.Core.List.{append-nil, append_assoc}
+use mathlib.Core.List.{append-nil}
 use lib.Dec.{leb, eqb}
 use native.Mathlib.Omega.{arith}
 use borrow.Author.Tests.{leb-true, le-leb, eqb-true, ne_eqb}
-use Rattle.layouts.specs.Primitive.{pick, number_bytes, Result, ok, refused, onward, no_such_entry}
+use Rattle.layouts.specs.Primitive.{pick, number_bytes, ok, refused, onward, no_such_entry}
 use Rattle.layouts.specs.Shape.{What}
 use Rattle.layouts.specs.Writers.{slots_of, strings_bytes, framed_bytes, writing}
 use Rattle.layouts.specs.CallWriter.{value_for, strings_in, entries_for, field_bytes}

@@ -11,14 +11,14 @@ use borrow.Author.Tests.{eq-eqb, ne_eqb}
 use Rattle.layouts.specs.declared.Refusal.{Refusal}
 use Rattle.layouts.specs.Primitive.{pick, Version, little_at, number_at, unknown_operation, no_arguments, Result, ok, refused, onward}
 use Rattle.layouts.specs.Refusal.{plain, refused_by}
-use Rattle.layouts.specs.Shape.{What, Group}
+use Rattle.layouts.specs.Shape.{What}
 use Rattle.layouts.specs.Calls.{Context}
 use Rattle.layouts.specs.Judge.{lent_after}
 use Rattle.layouts.specs.CallWriter.{fields_there, call_fields, shape_bytes, call_bytes, write_bytes, write_op_args}
 use Rattle.table.specs.declared.PackedGroup.{PackedGroup}
 use Rattle.table.specs.Packed.{size, packed_table}
-use Rattle.table.specs.Table.{group_at, items_at, items, unless_end, group_of, cons_group, groups_at, row_for, kind_numbered, version_in, target_of}
-use Rattle.table.proofs.Rows.{first_fields, fields_for, Refuses}
+use Rattle.table.specs.Table.{group_at, items_at, items, unless_end, group_of, cons_group, groups_at, row_for, kind_numbered, version_in}
+use Rattle.table.proofs.Rows.{first_fields}
 use Rattle.table.proofs.Tables.{groups_step}
 use Rattle.table_operations.specs.declared.Shape.{Shape}
 use Rattle.table_operations.specs.declared.Shape.TheVariants.{Unknown, At}
@@ -28,9 +28,6 @@ use Rattle.walk_items.specs.declared.Item as I
 use Rattle.walk_items.specs.Items.{spoken_of, first_of, version_of, begin_item}
 use Rattle.entries.specs.Entries.{entries_in, numbers_in}
 use Rattle.entries.proofs.Numbers.{with_words, with_bytes}
-use Rattle.writers_output.specs.declared.Written.{Written}
-use Rattle.writers_output.specs.declared.Written.TheVariants as W
-use Rattle.writers_output.specs.Answer.{meaning}
 use Rattle.writers_fields.specs.Fields.{fields_at}
 use Rattle.writers_calls.specs.Calls.{bytes_or, after_bytes, call_written}
 

@@ -5,8 +5,8 @@ use Rattle.layouts.specs.Primitive.{pick, number_bytes, Result, ok, refused}
 use Rattle.layouts.specs.Judge.{lent_after}
 use Rattle.layouts.specs.Shape.{What}
 use Rattle.layouts.specs.Calls.{Context}
-use Rattle.layouts.specs.Writers.{slots_of, strings_bytes, framed_bytes, writing}
-use Rattle.layouts.specs.CallWriter.{strings_in, entries_for, field_bytes, shape_bytes, call_bytes, write_bytes, write_op_args}
+use Rattle.layouts.specs.Writers.{slots_of, strings_bytes, framed_bytes}
+use Rattle.layouts.specs.CallWriter.{strings_in, entries_for, field_bytes, call_bytes, write_bytes, write_op_args}
 use Rattle.writers_sets.specs.Sets.{parts_from}
 use Rattle.writers_fields.specs.Fields.{has_number}
 

@@ -1,7 +1,7 @@
 -- The loop over the fields: gathering what remains gives the same at every turn. And the answer, by what is left of the numbers.
-use Prim.Native.Nat.{ℕ, zero, suc, ◌+◌, ◌-◌, ◌≤◌, ◌<◌}
-use mathlib.Core.Path.{◌≡◌, refl, sym, ◌∙◌, ap, subst}
-use mathlib.Core.List.{List, [], ◌∷◌, ◌++◌}
+use Prim.Native.Nat.{ℕ, ◌+◌, ◌-◌, ◌≤◌, ◌<◌}
+use mathlib.Core.Path.{◌≡◌, refl, sym, ◌∙◌, ap}
+use mathlib.Core.List.{List}
 use mathlib.Core.Bool.{Bool, true, false, ◌&&◌, ◌||◌}
 use lib.ListN.{length}
 use lib.Dec.{leb, eqb}
@@ -22,7 +22,7 @@ use Rattle.writers_output.specs.declared.Written.TheVariants as W
 use Rattle.writers_output.specs.Answer.{meaning}
 use Rattle.writers_sets.specs.Sets.{grown}
 use Rattle.writers_fields.specs.declared.Needs.{Needs}
-use Rattle.writers_fields.specs.Fields.{fields_at, what_in, target_by, strings_by, strings_after, bytes_by, bytes_after}
+use Rattle.writers_fields.specs.Fields.{fields_at, target_by, strings_by, strings_after, bytes_by, bytes_after}
 use Rattle.writers_fields.proofs.Laws.{Next, next, kinded, left_by_lem, frames_by_lem, bytes_by_lem, entries_by}
 
 pub record Gathering (ns : List ℕ) (slots framed room : ℕ) (left₀ : List ℕ) (ws₀ : List What) (e : Written) (b : ℕ) (f : Bool) (l : List ℕ) (ws : List What) : Type 0 where

@@ -1,25 +1,24 @@
 -- The fields of a call, item by item: what each item leaves of the numbers, and what it needs.
-use Prim.Native.Nat.{ℕ, zero, suc, ◌+◌, ◌-◌, ◌≤◌, ◌<◌}
+use Prim.Native.Nat.{ℕ, ◌+◌, ◌-◌, ◌≤◌, ◌<◌}
 use mathlib.Core.Path.{◌≡◌, refl, sym, ◌∙◌, ap, subst}
 use mathlib.Core.List.{List, [], ◌∷◌, ◌++◌}
-use mathlib.Core.Bool.{Bool, true, false, not, ◌&&◌, ◌||◌}
-use lib.ListN.{length, get_or, drop}
+use mathlib.Core.Bool.{Bool, true, false, ◌||◌}
 use lib.Dec.{ltb, leb, eqb}
 use native.Mathlib.Omega.{arith}
 use native.Mathlib.Decide.{ℕ_discrete, dec_le}
 use borrow.Author.Tests.{eq-eqb, ne_eqb, le-leb, lt-leb, le-ltb}
-use Rattle.layouts.specs.Primitive.{pick, Version, Result, ok, refused, onward, no_such_entry}
-use Rattle.layouts.specs.Shape.{What, Gated, there, what}
-use Rattle.layouts.specs.CallWriter.{fields_there, value_for, leave, left_by, all_zero, has_frames, strings_in, entries_for}
+use Rattle.layouts.specs.Primitive.{pick, Version, ok, refused, onward, no_such_entry}
+use Rattle.layouts.specs.Shape.{What, Gated, what}
+use Rattle.layouts.specs.CallWriter.{fields_there, value_for, leave, left_by, has_frames, strings_in, entries_for}
 use Rattle.table.specs.declared.Field.{Field}
 use Rattle.table.specs.Packed.{size, packed_table}
 use Rattle.table.specs.Table.{field_at, group_at, role_of, target_of, what_of, item_of, unless_end, cons_gated, items_at}
 use Rattle.table.proofs.Tables.{items_step, field_in}
 use Rattle.walk_items.specs.declared.Item as I
-use Rattle.walk_items.specs.Items.{version_of, is_there, after_fields, field_item, next_item}
+use Rattle.walk_items.specs.Items.{is_there, after_fields, field_item, next_item}
 use Rattle.walk_items.proofs.Trees.{there_item, what_item}
 use Rattle.writers_sets.specs.Sets.{grown}
-use Rattle.writers_fields.specs.Fields.{fields_at, what_in, has_number, target_by, strings_by, strings_after, bytes_by, bytes_of, bytes_after}
+use Rattle.writers_fields.specs.Fields.{what_in, target_by, strings_after, bytes_by, bytes_of, bytes_after}
 
 -- ---- the next item of a group of fields
 -- its kind is 0 at the end; else it is a field or nothing, and its place is in the table

@@ -2,7 +2,7 @@
 use Prim.Native.Nat.{ℕ, ◌+◌, ◌-◌, ◌*◌, ◌/◌, ◌≤◌, ◌<◌}
 use mathlib.Core.Path.{◌≡◌, refl, sym, ◌∙◌, ap}
 use mathlib.Core.List.{List}
-use mathlib.Core.Bool.{Bool, true, false, ◌&&◌}
+use mathlib.Core.Bool.{Bool, true, false}
 use lib.ListN.{get_or}
 use lib.ListN as ListN
 use lib.Dec.{ltb, leb, eqb}
@@ -10,7 +10,7 @@ use native.Mathlib.Omega.{arith}
 use native.Mathlib.Decide.{ℕ_discrete, dec_lt}
 use borrow.Author.Tests.{eq-eqb, ne_eqb, lt-ltb, le-ltb, le-leb, lt-leb}
 use Rattle.layouts.specs.Primitive.{pick, Result, ok, refused, onward, no_such_entry}
-use Rattle.layouts.specs.Shape.{Target, dropped, as_number, as_flag, as_count, as_presence}
+use Rattle.layouts.specs.Shape.{dropped, as_number, as_flag, as_count, as_presence}
 use Rattle.layouts.specs.CallWriter.{value_for, leave}
 use Rattle.table.specs.Table.{target_of}
 use Rattle.writers_fields.specs.Fields.{has_number, index_of, left_of, strings_by, strings_after, bytes_by}

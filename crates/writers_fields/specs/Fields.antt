@@ -1,6 +1,6 @@
 -- The fields of a call by the numbers of the table, and what they need.
 use Rattle.std.specs.Prelude.{ℕ, ◌+◌, ◌-◌, List, [], ◌∷◌, Bool, not, ◌&&◌, ltb, leb, eqb}
-use Rattle.layouts.specs.Primitive.{pick, Version, no_such_entry, Result, ok, refused}
+use Rattle.layouts.specs.Primitive.{pick, no_such_entry, Result, ok, refused}
 use Rattle.layouts.specs.Shape.{What, num, str, set, pairs, framed, maybe, typed, position}
 use Rattle.layouts.specs.CallWriter.{fields_there}
 use Rattle.table.specs.Table.{role_of, target_of, what_of, items_at}

@@ -14,6 +14,6 @@ shape_of-bytes c =
 pub returns : goal.returns
 returns c =
     let first = c.fill_entries-n in
- let all = turns_filled c.args.g c.args.client.now c.args.daemon.now c.args.words.now c.args.bytes.now
+    let all = turns_filled c.args.g c.args.client.now c.args.daemon.now c.args.words.now c.args.bytes.now
     first.new.words first.result.words first.new.bytes first.result.bytes (first.ensures.words, first.ensures.bytes) _ _ _ _ (c.fill_entries-m.ensures.words, c.fill_entries-m.ensures.bytes) _ _ _ _
     (c.fill_entries.ensures.words, c.fill_entries.ensures.bytes) in record { words = all.0; bytes = all.1 }

@@ -24,7 +24,7 @@ shape_of-bytes-in_default c = search rules
 pub returns-in_default : goal.returns-in_default
 returns-in_default c =
     let judged = both_judged _ _ _ _ _ _ _ c.args.words.now c.args.bytes.now c.slots-slots.ensures _ c.judge_handshake-g.ensures in
- let all = lent_kept _ _ _ _ _ _ _ judged _ _ _ c.in_default.is in record { answer = all.0; words = all.1.0; bytes = all.1.1 }
+    let all = lent_kept _ _ _ _ _ _ _ judged _ _ _ c.in_default.is in record { answer = all.0; words = all.1.0; bytes = all.1.1 }
 
 pub fill_turns-requires : goal.fill_turns-requires
 fill_turns-requires c = search rules
@@ -38,7 +38,7 @@ shape_of-bytes-then-entries-gt-WINDOW c = search rules
 pub returns-then-entries-gt-WINDOW : goal.returns-then-entries-gt-WINDOW
 returns-then-entries-gt-WINDOW c =
     let judged = both_judged _ _ _ _ _ _ _ c.args.words.now c.args.bytes.now c.slots-slots.ensures _ c.judge_handshake-g.ensures in
- let all = by_turns _ _ _ _ _ _ _ judged _ _ _ _ _ _ _ _ c.in-Fine.is _ _ (c.fill_turns.ensures.words, c.fill_turns.ensures.bytes) in record { answer = all.0; words = all.1.0; bytes = all.1.1 }
+    let all = by_turns _ _ _ _ _ _ _ judged _ _ _ _ _ _ _ _ c.in-Fine.is _ _ (c.fill_turns.ensures.words, c.fill_turns.ensures.bytes) in record { answer = all.0; words = all.1.0; bytes = all.1.1 }
 
 pub slice_bounds-put_window-end : goal.slice_bounds-put_window-end
 slice_bounds-put_window-end c =
@@ -57,4 +57,4 @@ shape_of-bytes c = search rules
 pub returns : goal.returns
 returns c =
     let judged = both_judged _ _ _ _ _ _ _ c.args.words.now c.args.bytes.now c.slots-slots.ensures _ c.judge_handshake-g.ensures in
- let all = by_window _ _ _ _ _ _ _ judged _ _ _ _ _ _ _ _ c.in-Fine.is c.if-entries-gt-WINDOW.false _ _ (c.put_window.ensures.words, c.put_window.ensures.bytes) in record { answer = all.0; words = all.1.0; bytes = all.1.1 }
+    let all = by_window _ _ _ _ _ _ _ judged _ _ _ _ _ _ _ _ c.in-Fine.is c.if-entries-gt-WINDOW.false _ _ (c.put_window.ensures.words, c.put_window.ensures.bytes) in record { answer = all.0; words = all.1.0; bytes = all.1.1 }

@@ -26,7 +26,7 @@ pub returns-in_default : goal.returns-in_default
 returns-in_default c =
     let judged = alone_judged _ _ _ _ _ _ _ c.args.words.now c.args.bytes.now c.slots-slots.ensures (version c.args.major c.args.minor)
     (c.judge_daemon_handshake-g.ensures c.args.daemon.now) in
- let all = lent_kept _ _ _ _ _ _ _ judged _ _ _ c.in_default.is in record { answer = all.0; words = all.1.0; bytes = all.1.1 }
+    let all = lent_kept _ _ _ _ _ _ _ judged _ _ _ c.in_default.is in record { answer = all.0; words = all.1.0; bytes = all.1.1 }
 
 pub fill_turns-requires : goal.fill_turns-requires
 fill_turns-requires c = search rules
@@ -41,7 +41,7 @@ pub returns-then-entries-gt-WINDOW : goal.returns-then-entries-gt-WINDOW
 returns-then-entries-gt-WINDOW c =
     let judged = alone_judged _ _ _ _ _ _ _ c.args.words.now c.args.bytes.now c.slots-slots.ensures (version c.args.major c.args.minor)
     (c.judge_daemon_handshake-g.ensures c.args.daemon.now) in
- let all = by_turns _ _ _ _ _ _ _ judged _ _ _ _ _ _ _ _ c.in-Fine.is _ _ (c.fill_turns.ensures.words, c.fill_turns.ensures.bytes) in record { answer = all.0; words = all.1.0; bytes = all.1.1 }
+    let all = by_turns _ _ _ _ _ _ _ judged _ _ _ _ _ _ _ _ c.in-Fine.is _ _ (c.fill_turns.ensures.words, c.fill_turns.ensures.bytes) in record { answer = all.0; words = all.1.0; bytes = all.1.1 }
 
 pub slice_bounds-put_window-end : goal.slice_bounds-put_window-end
 slice_bounds-put_window-end c =
@@ -62,4 +62,4 @@ pub returns : goal.returns
 returns c =
     let judged = alone_judged _ _ _ _ _ _ _ c.args.words.now c.args.bytes.now c.slots-slots.ensures (version c.args.major c.args.minor)
     (c.judge_daemon_handshake-g.ensures c.args.daemon.now) in
- let all = by_window _ _ _ _ _ _ _ judged _ _ _ _ _ _ _ _ c.in-Fine.is c.if-entries-gt-WINDOW.false _ _ (c.put_window.ensures.words, c.put_window.ensures.bytes) in record { answer = all.0; words = all.1.0; bytes = all.1.1 }
+    let all = by_window _ _ _ _ _ _ _ judged _ _ _ _ _ _ _ _ c.in-Fine.is c.if-entries-gt-WINDOW.false _ _ (c.put_window.ensures.words, c.put_window.ensures.bytes) in record { answer = all.0; words = all.1.0; bytes = all.1.1 }

@@ -1,5 +1,4 @@
 use native.Mathlib.Omega.{arith}
-use Prim.Native.Nat.{◌-◌}
 use Rattle.stderr.proofs.Going.{going_start, none_there, there, no_message, last_message, cut_message, past_message, going_on}
 use Rattle.stderr.proofs.stderr_loop.Goals as goal
 

@@ -1,5 +1,4 @@
 use borrow.Author.Rules.{rules}
-use Prim.Native.Nat.{◌-◌}
 use native.Mathlib.Omega.{arith}
 use Rattle.walk_fill.proofs.Pieces.{copying_start, copying_last, copying_past, copying_cut, copying_on}
 use Rattle.walk_fill.proofs.copy_frames.Goals as goal
@@ -38,8 +37,11 @@ shape_of-payload-in-Short c = search rules
 
 pub returns-in-Short : goal.returns-in-Short
 returns-in-Short c =
-    record { law = copying_cut _ _ _ _ _ _ _ _ c.loop-size.invariant c.if-size-eq0.false (omega (arith, c.loop-size.invariant.there, c.if-s-start.false)) _ _ c.put_chunk-filled.ensures _
-          c.number_at-m.ensures c.in-Short.is; on = c.requires.0 }
+    record {
+      law = copying_cut _ _ _ _ _ _ _ _ c.loop-size.invariant c.if-size-eq0.false (omega (arith, c.loop-size.invariant.there, c.if-s-start.false)) _ _ c.put_chunk-filled.ensures _
+          c.number_at-m.ensures c.in-Short.is;
+      on = c.requires.0;
+    }
 
 pub loop-size-smaller : goal.loop-size-smaller
 loop-size-smaller c =

@@ -1,8 +1,3 @@
-use borrow.Author.Rules.{rules}
-use mathlib.Core.Path.{◌≡◌}
-use Prim.Native.Nat.{◌+◌, ◌<◌, ◌≤◌}
-use lib.ListN.{length}
-use Rattle.layouts.specs.Primitive.{number_at}
 use native.Mathlib.Omega.{arith}
 use Rattle.pieces.proofs.Numbers.{number_known}
 use Rattle.walk_items.proofs.Measure.{quiet_less, field_less, read_less}

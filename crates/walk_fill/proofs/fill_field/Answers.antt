@@ -18,5 +18,8 @@ returns-then-kind-eq-STR c =
 
 pub returns : goal.returns
 returns c =
-    record { law = number_field c.args.s.now _ _ _ _ _ _ _ _ _ _ _ c.fill_after-r.result c.if-kind-eq-STR.false c.if-kind-eq-FRAMES.false _ c.requires.1 c.requires.0
-          c.fill_after-r.ensures.law; on = c.fill_after-r.ensures.on }
+    record {
+      law = number_field c.args.s.now _ _ _ _ _ _ _ _ _ _ _ c.fill_after-r.result c.if-kind-eq-STR.false c.if-kind-eq-FRAMES.false _ c.requires.1 c.requires.0
+          c.fill_after-r.ensures.law;
+      on = c.fill_after-r.ensures.on;
+    }

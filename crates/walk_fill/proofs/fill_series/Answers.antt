@@ -1,4 +1,3 @@
-use Prim.Native.Nat.{◌-◌}
 use native.Mathlib.Omega.{arith}
 use Rattle.pieces.proofs.Numbers.{number_known, number_short}
 use Rattle.walk_fill.proofs.Pieces.{along_start, along_end, along_past, along_on}
@@ -25,8 +24,11 @@ shape_of-bytes-in-Short c = c.loop-pend.invariant.long
 
 pub returns-in-Short : goal.returns-in-Short
 returns-in-Short c =
-    record { law = along_past _ _ _ _ _ _ _ _ _ _ _ _ _ _ _ _ c.loop-pend.invariant _ c.after_next-m.ensures _ _ c.in-String.is
-          (number_short c.args.s.now _ _ c.number_at-d.ensures c.in-Short.is); on = c.requires }
+    record {
+      law = along_past _ _ _ _ _ _ _ _ _ _ _ _ _ _ _ _ c.loop-pend.invariant _ c.after_next-m.ensures _ _ c.in-String.is
+          (number_short c.args.s.now _ _ c.number_at-d.ensures c.in-Short.is);
+      on = c.requires;
+    }
 
 pub fill_text-t-requires : goal.fill_text-t-requires
 fill_text-t-requires c = number_known _ _ _ c.number_at-d.ensures _ c.in-Value.is

@@ -17,8 +17,11 @@ overflow_add-result-then-has_contents c =
 
 pub returns-then-has_contents : goal.returns-then-has_contents
 returns-then-has_contents c =
-    record { law = text_listed _ _ _ c.requires.1 c.args.role _ _ _ _ (contents_there c.args.s.now _ _ _ c.has_contents.ensures c.if-has_contents.true) _ c.padding.ensures.0 _ _ _ _
-          c.put_kept-k.ensures.words c.put_kept-k.ensures.bytes; on = omega arith }
+    record {
+      law = text_listed _ _ _ c.requires.1 c.args.role _ _ _ _ (contents_there c.args.s.now _ _ _ c.has_contents.ensures c.if-has_contents.true) _ c.padding.ensures.0 _ _ _ _
+          c.put_kept-k.ensures.words c.put_kept-k.ensures.bytes;
+      on = omega arith;
+    }
 
 pub returns : goal.returns
 returns c =

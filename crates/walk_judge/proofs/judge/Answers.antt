@@ -24,8 +24,11 @@ feed-k-requires c = (c.if-f-eq-END.false, c.if-f-eq-QUIET.false)
 
 pub returns-in-Refused : goal.returns-in-Refused
 returns-in-Refused c =
-    record { answer = going_refused _ _ _ _ _ _ _ _ _ _ c.next-f.ensures.law _ _ _ _ c.loop-f.invariant _ _ c.feed-k.ensures.law _ _ c.in-Refused.is c.refuse.ensures.answer; window = refused_empty c.refuse.result _ c.refuse.ensures.said c.args.window.now c.args.entries
-          (entries_of (pieces_of c.args.layout c.args.s.now c.args.from)) }
+    record {
+      answer = going_refused _ _ _ _ _ _ _ _ _ _ c.next-f.ensures.law _ _ _ _ c.loop-f.invariant _ _ c.feed-k.ensures.law _ _ c.in-Refused.is c.refuse.ensures.answer;
+      window = refused_empty c.refuse.result _ c.refuse.ensures.said c.args.window.now c.args.entries
+          (entries_of (pieces_of c.args.layout c.args.s.now c.args.from));
+    }
 
 pub loop-f-smaller : goal.loop-f-smaller
 loop-f-smaller c =

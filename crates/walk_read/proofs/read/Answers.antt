@@ -33,7 +33,7 @@ shape_of-bytes-in-Refused c = search rules
 
 pub returns-in-Refused : goal.returns-in-Refused
 returns-in-Refused c =
-     let rest = all_kept _ _ _ _ c.args.code _ c.slots-slots.ensures _ _ _ c.judge-a.ensures.answer _ c.in-Refused.is _ _ _ in record { answer = read_refused _ _ _ _ _ _ c.slots-slots.ensures _ _ _ c.judge-a.ensures.answer _ c.in-Refused.is; words = rest.0; bytes = rest.1.0; payload = rest.1.1 }
+    let rest = all_kept _ _ _ _ c.args.code _ c.slots-slots.ensures _ _ _ c.judge-a.ensures.answer _ c.in-Refused.is _ _ _ in record { answer = read_refused _ _ _ _ _ _ c.slots-slots.ensures _ _ _ c.judge-a.ensures.answer _ c.in-Refused.is; words = rest.0; bytes = rest.1.0; payload = rest.1.1 }
 
 pub shape_of-words-in-Fine : goal.shape_of-words-in-Fine
 shape_of-words-in-Fine c = search rules
@@ -46,4 +46,4 @@ shape_of-payload c = search rules
 
 pub returns-in-Fine : goal.returns-in-Fine
 returns-in-Fine c =
-     let rest = all_filled _ _ _ _ c.args.code _ c.slots-slots.ensures _ _ _ c.judge-a.ensures.answer _ _ _ _ _ _ c.in-Fine.is _ _ _ _ _ _ (c.fill_in.ensures.words, (c.fill_in.ensures.bytes, c.fill_in.ensures.payload)) in record { answer = read_fine _ _ _ _ _ _ c.slots-slots.ensures _ _ _ c.judge-a.ensures.answer _ _ _ _ _ _ c.in-Fine.is _ (rw (← c.spoken.ensures) c.kind_of.ensures); words = rest.0; bytes = rest.1.0; payload = rest.1.1 }
+    let rest = all_filled _ _ _ _ c.args.code _ c.slots-slots.ensures _ _ _ c.judge-a.ensures.answer _ _ _ _ _ _ c.in-Fine.is _ _ _ _ _ _ (c.fill_in.ensures.words, (c.fill_in.ensures.bytes, c.fill_in.ensures.payload)) in record { answer = read_fine _ _ _ _ _ _ c.slots-slots.ensures _ _ _ c.judge-a.ensures.answer _ _ _ _ _ _ c.in-Fine.is _ (rw (← c.spoken.ensures) c.kind_of.ensures); words = rest.0; bytes = rest.1.0; payload = rest.1.1 }

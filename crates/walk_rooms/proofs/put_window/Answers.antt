@@ -1,4 +1,3 @@
-use Prim.Native.Nat.{◌-◌}
 use mathlib.Core.Path.{refl}
 use Rattle.walk_rooms.proofs.Laws.{few, flushing_start, flushing_end, flushing_on}
 use Rattle.walk_rooms.proofs.put_window.Goals as goal

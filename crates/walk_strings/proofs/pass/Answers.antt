@@ -1,4 +1,3 @@
-use Prim.Native.Nat.{◌-◌}
 use mathlib.Core.Path.{ap}
 use native.Mathlib.Omega.{arith}
 use Rattle.walk_strings.proofs.Series.{text_passed, half_passed, passing_start, passing_end, passing_refused, passing_on, expected_fits, passing_expected, stride_found}
@@ -21,12 +20,11 @@ pub loop-pend-smaller-then-is_expected : goal.loop-pend-smaller-then-is_expected
 loop-pend-smaller-then-is_expected c = omega (arith, expected_fits c.args.s.now _ _ _ _ c.is_expected.ensures c.if-is_expected.true)
 
 pub loop-pend-preserved-then-is_expected : goal.loop-pend-preserved-then-is_expected
-loop-pend-preserved-then-is_expected c =
-    (
-      passing_expected c.args.s.now _ _ _ _ _ _ _ c.loop-pend.invariant.0 _ c.after_next-m.ensures _ _ c.in-String.is _ _ _
-          c.is_expected.ensures c.if-is_expected.true,
-      c.loop-pend.invariant.1,
-    )
+loop-pend-preserved-then-is_expected c = (
+  passing_expected c.args.s.now _ _ _ _ _ _ _ c.loop-pend.invariant.0 _ c.after_next-m.ensures _ _ c.in-String.is _ _ _
+      c.is_expected.ensures c.if-is_expected.true,
+  c.loop-pend.invariant.1,
+)
 
 pub returns-in-Bad : goal.returns-in-Bad
 returns-in-Bad c = let all = passing_refused c.args.s.now _ _ _ _ _ _ _ c.loop-pend.invariant.0 _ c.after_next-m.ensures _ _ c.in-String.is _ c.text_at-t.ensures _
@@ -49,9 +47,8 @@ loop-pend-smaller c =
     omega (arith, whole_found c.args.s.now _ _ c.text_at-t.ensures _ _ _ c.in-Whole.is)
 
 pub loop-pend-preserved : goal.loop-pend-preserved
-loop-pend-preserved c =
-    (
-      passing_on c.args.s.now _ _ _ _ _ _ _ c.loop-pend.invariant.0 _ c.after_next-m.ensures _ _ c.in-String.is _ c.text_at-t.ensures _ _ _
-          c.in-Whole.is,
-      stride_found c.args.s.now _ _ c.text_at-t.ensures _ _ _ c.in-Whole.is,
-    )
+loop-pend-preserved c = (
+  passing_on c.args.s.now _ _ _ _ _ _ _ c.loop-pend.invariant.0 _ c.after_next-m.ensures _ _ c.in-String.is _ c.text_at-t.ensures _ _ _
+      c.in-Whole.is,
+  stride_found c.args.s.now _ _ c.text_at-t.ensures _ _ _ c.in-Whole.is,
+)

@@ -1,4 +1,3 @@
-use Prim.Native.Nat.{◌-◌}
 use native.Mathlib.Omega.{arith}
 use Rattle.pieces.proofs.Nodes.{part_found}
 use Rattle.walk_take.proofs.Frames.{framing_start, framing_wrong, framing_last, last_took, framing_stop, framing_on}

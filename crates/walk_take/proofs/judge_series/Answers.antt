@@ -1,4 +1,3 @@
-use Prim.Native.Nat.{◌-◌}
 use native.Mathlib.Omega.{arith}
 use Rattle.walk_take.proofs.Strings.{along_start, along_end, along_refused, along_on, series_took}
 use Rattle.walk_take.proofs.judge_series.Goals as goal

@@ -1,7 +1,5 @@
 -- `writers_calls::judge` meets its contract: by what the fields need.
-use Prim.Native.Nat.{◌<◌}
 use mathlib.Core.Path.{◌∙◌}
-use lib.ListN.{length}
 use native.Mathlib.Omega.{arith}
 use Rattle.entries.specs.Entries.{numbers_in}
 use Rattle.entries.proofs.Numbers.{slots_in_lem}

@@ -1,6 +1,4 @@
-use Prim.Native.Nat.{◌-◌}
 use mathlib.Core.Path.{◌∙◌}
-use Rattle.table.specs.Packed.{size}
 use Rattle.entries.proofs.Numbers.{slots_in_lem}
 use Rattle.writers_calls.proofs.Puts.{going_start, going_end, going_less, going_room, going_turn}
 use Rattle.writers_calls.proofs.put_items.Goals as goal

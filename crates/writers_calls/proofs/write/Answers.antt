@@ -1,5 +1,4 @@
 -- `writers_calls::write` meets its contract: by the row of the operation.
-use Rattle.layouts.specs.Primitive.{version}
 use Rattle.entries.specs.Entries.{numbers_in}
 use Rattle.writers_calls.proofs.Rows.{call_unknown, call_none, call_fields_lem}
 use Rattle.writers_calls.proofs.write.Goals as goal

@@ -1,4 +1,3 @@
-use Prim.Native.Nat.{◌-◌}
 use Rattle.writers_fields.proofs.Gathering.{gather_start, gather_end, gather_less, gather_turn}
 use Rattle.writers_fields.proofs.gather.Goals as goal
 

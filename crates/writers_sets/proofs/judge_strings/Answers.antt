@@ -1,4 +1,3 @@
-use Prim.Native.Nat.{◌-◌}
 use native.Mathlib.Omega.{arith}
 use Rattle.writers_sets.proofs.Sets.{judging_start, judging_turn, judging_refused, judging_end}
 use Rattle.writers_sets.proofs.judge_strings.Goals as goal

@@ -11,4 +11,4 @@ pub returns : goal.returns
 returns c =
     let a = c.args in
     let d = c.digits-i in
- let all = same_output _ _ _ _ _ (decimal_part d.new.text d.result a.n d.ensures.1 d.ensures.2 a.b.now) (c.write_two.ensures.answer, c.write_two.ensures.lent) in record { answer = all.0; lent = all.1 }
+    let all = same_output _ _ _ _ _ (decimal_part d.new.text d.result a.n d.ensures.1 d.ensures.2 a.b.now) (c.write_two.ensures.answer, c.write_two.ensures.lent) in record { answer = all.0; lent = all.1 }
