@@ -68,8 +68,8 @@ $arms
 CODES_PROOF = """-- $made: an arm of `code` is an entry of the list, and the last arm lies past its end.
 use Prim.Native.Nat.{◌≤◌}
 use native.Mathlib.Omega.{arith}
-use Rattle.table.proofs.Tables.{entry, missed, get_d_past}
-use Rattle.table.specs.Packed.{size, packed_list}
+use Rattle.table.proofs.Tables.{entry, get_d_past}
+use Rattle.table.specs.Packed.{packed_list}
 use Rattle.table_code.proofs.packed.code.Goals as goal
 
 $answers

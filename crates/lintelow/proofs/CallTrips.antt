@@ -10,7 +10,7 @@ use borrow.Fn.Kinds.{Dens, ended_of}
 use denote.Triple.Clauses.{AtExit}
 use native.Mathlib.Nat.{zero-add}
 use Rattle.layouts.specs.declared.Record.{Record}
-use Rattle.layouts.specs.Primitive.{version, Result, ok}
+use Rattle.layouts.specs.Primitive.{Result, ok}
 use Rattle.layouts.specs.Judge.{entries_of, payload_of, lent_after}
 use Rattle.layouts.specs.Calls as L
 use Rattle.layouts.specs.Calls.{Context, context, arguments_kinds, arguments_tree, read_op_args}

@@ -8,7 +8,7 @@ use lib.ListN.{length, drop}
 use contract.Lifetimes.{Lfts}
 use borrow.Fn.Kinds.{Dens, ended_of}
 use denote.Triple.Clauses.{AtExit}
-use denote.Ref.{Bor, MutBor}
+use denote.Ref.{MutBor}
 use Rattle.layouts.specs.Primitive.{Version, version, Result, ok}
 use Rattle.layouts.specs.Shape.{Tree, as_count, kept, set, framed}
 use Rattle.layouts.specs.Pieces.{Pieces, run, total_of}
@@ -30,7 +30,6 @@ use Rattle.layouts.proofs.Calls.{soft_skip_reply, soft_read_reply, soft_rest_rep
 use Rattle.entries.specs.Entries.{entries_in}
 use Rattle.pieces.proofs.Fields.{field_framed}
 use Rattle.writers_output.specs.Numbers.{bytes_of}
-use Rattle.walk_judge.specs.declared.Answer.{Answer}
 use Rattle.walk_judge.specs.Judged.{answer_as}
 use Rattle.wire.specs.Answers.{set_entries, framed_payload}
 use Rattle.wire.proofs.Sets.{set_fits}

@@ -1,5 +1,5 @@
 -- Round trips over plain lists: what was written, as it is read; and what was read, as it is written again.
-use Prim.Native.Nat.{ℕ, zero, ◌+◌, ◌-◌, ◌*◌, ◌≤◌, ◌<◌}
+use Prim.Native.Nat.{ℕ, ◌+◌, ◌-◌, ◌*◌, ◌≤◌, ◌<◌}
 use mathlib.Core.Path.{◌≡◌, refl, sym, ◌∙◌, ap}
 use mathlib.Core.List.{List, [], ◌∷◌, ◌++◌}
 use lib.ListN.{length, get_or, take, drop, length-append, length-drop}
@@ -24,7 +24,6 @@ use Rattle.layouts.proofs.RoundTrip.{string_number, string_shown, string_skipped
 use Rattle.writers_output.specs.Answer.{after_writing}
 use Rattle.pieces.specs.Pieces.{Span, span}
 use Rattle.wire.specs.Answers.{read_bytes, read_text, set_entries}
-use Rattle.lintelow_answers.specs.Answers.{written}
 use Rattle.lintelow.specs.RoundTrips.{Has, Limited, SameStrings}
 
 -- ---- there: a string c that was written; o is what a reader answers where a stream has its n bytes

@@ -5,17 +5,15 @@ use mathlib.Core.List.{List, ◌∷◌}
 use mathlib.Core.Bool.{false}
 use lib.ListN.{replicate}
 use lib.Dec.{eqb}
-use Rattle.layouts.specs.declared.Record.{Record}
 use Rattle.layouts.specs.Primitive.{pick, Result, ok, refused}
 use Rattle.layouts.specs.Calls as L
-use Rattle.walk_judge.specs.declared.Outcome.{Outcome}
 use Rattle.walk_judge.specs.declared.Answer.{Answer}
 use Rattle.walk_strings.specs.declared.Passed.{Passed}
 use Rattle.walk_judge.specs.Judged.{answer_as}
 use Rattle.walk_pass.specs.Skip.{skipped}
 use Rattle.protocol.specs.declared.Arguments.{Arguments}
 use Rattle.protocol.specs.Protocol.{arguments_as}
-use Rattle.lintelow_answers.specs.Skips.{string_record, string_skipped, result_skipped}
+use Rattle.lintelow_answers.specs.Skips.{string_skipped, result_skipped}
 
 abbrev answer_of : Arguments → (entries : ℕ) → Answer
 answer_of a k =

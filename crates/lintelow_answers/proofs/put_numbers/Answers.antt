@@ -1,4 +1,3 @@
-use Prim.Native.Nat.{◌-◌}
 use Rattle.lintelow_answers.proofs.Laws.{putting_none, putting_more, putting_all}
 use Rattle.lintelow_answers.proofs.put_numbers.Goals as goal
 

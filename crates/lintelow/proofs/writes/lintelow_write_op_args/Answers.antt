@@ -1,6 +1,4 @@
 -- `lintelow::writes::lintelow_write_op_args` meets its contract: a short block is refused, else the answer of the call is put.
-use Prim.Native.Nat.{◌<◌}
-use lib.ListN.{length}
 use native.Mathlib.Omega.{arith}
 use Rattle.writers_calls.proofs.Rows.{call_answers}
 use Rattle.lintelow_answers.proofs.Guard.{write_short, write_long}
