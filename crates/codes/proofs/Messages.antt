@@ -12,13 +12,12 @@ use Rattle.layouts.specs.Stderr as Number
 use Rattle.layouts.specs.Stderr.{Message, no_code, terminal, goes, message_of}
 use Rattle.codes.specs.declared.StderrCode.{StderrCode}
 use Rattle.codes.specs.declared.StderrCode.TheVariants.{Next, Read, Write, Last, Error, StartActivity, StopActivity, Result}
-use Rattle.codes.specs.declared.StderrFound.{StderrFound}
-use Rattle.codes.specs.declared.StderrFound.TheVariants.{Code, None}
 use Rattle.codes.specs.Stderr.{code_number, code_of, ends, is_terminal}
+use Rattle.std.specs.Prelude.{Option, Some, None}
 
 -- ---- a number that is a code, and one that is none
 -- `from_u64` of a code's number is the code
-pub of_code : (c : StderrCode) → code_of (code_number c) ≡ Code c
+pub of_code : (c : StderrCode) → code_of (code_number c) ≡ Some c
 unfolding code_of
 of_code Next = refl
 of_code Read = refl
@@ -29,7 +28,7 @@ of_code StartActivity = refl
 of_code StopActivity = refl
 of_code Result = refl
 
-pub code_of_lem : (c : StderrCode) (v : ℕ) → v ≡ code_number c → Code c ≡ code_of v
+pub code_of_lem : (c : StderrCode) (v : ℕ) → v ≡ code_number c → Some c ≡ code_of v
 code_of_lem c v e = rw e (sym (of_code c))
 
 -- v is no code's number
@@ -76,8 +75,8 @@ by_number Result = refl
 
 -- ---- the theorems
 -- what a found code says
-abbrev says : StderrFound → Message
-says (Code c) = message_of (code_number c)
+abbrev says : Option StderrCode → Message
+says (Some c) = message_of (code_number c)
 says None = no_code
 
 -- one of the eight, or none
@@ -97,9 +96,9 @@ message : (v : ℕ) → message_of v ≡ says (code_of v)
 message v = by_cases (λ v. message_of v ≡ says (code_of v)) v (λ c. rw of_code) (λ f. rw (code_none v f) (message_none v f))
 
 -- a code that is found has the number that was looked for
-pub has_number_lem : (v : ℕ) (c : StderrCode) → code_of v ≡ Code c → code_number c ≡ v
+pub has_number_lem : (v : ℕ) (c : StderrCode) → code_of v ≡ Some c → code_number c ≡ v
 has_number_lem v =
-    by_cases (λ v. (c : StderrCode) → code_of v ≡ Code c → code_number c ≡ v) v
+    by_cases (λ v. (c : StderrCode) → code_of v ≡ Some c → code_number c ≡ v) v
     (λ d c e. let o = of_code d in let z : c ≡ d = cc in ap code_number z)
     (λ f c e. let o = code_none v f in let z : ◌≡◌ {A = ℕ} 0 1 = cc in absurd (omega arith))
 
@@ -115,8 +114,8 @@ some_message StartActivity e = let z : ◌≡◌ {A = ℕ} 0 1 = cc in omega ari
 some_message StopActivity e = let z : ◌≡◌ {A = ℕ} 0 1 = cc in omega arith
 some_message Result e = let z : ◌≡◌ {A = ℕ} 0 1 = cc in omega arith
 
-says_none : (f : StderrFound) → says f ≡ no_code → f ≡ None
-says_none (Code c) e = absurd (some_message c e)
+says_none : (f : Option StderrCode) → says f ≡ no_code → f ≡ None
+says_none (Some c) e = absurd (some_message c e)
 says_none None e = refl
 
 pub no_code_lem : (v : ℕ) → (code_of v ≡ None) ↔ (message_of v ≡ no_code)
@@ -128,7 +127,7 @@ ends_terminal no_code e = let z : ◌≡◌ {A = ℕ} 0 1 = cc in absurd (omega 
 ends_terminal terminal e = refl
 ends_terminal (goes gs) e = let z : ◌≡◌ {A = ℕ} 0 1 = cc in absurd (omega arith)
 
-pub terminal_code : (v : ℕ) (c : StderrCode) → code_of v ≡ Code c → (is_terminal c ≡ true) ↔ (message_of v ≡ terminal)
+pub terminal_code : (v : ℕ) (c : StderrCode) → code_of v ≡ Some c → (is_terminal c ≡ true) ↔ (message_of v ≡ terminal)
 unfolding is_terminal
 terminal_code v c e =
     let m : message_of v ≡ message_of (code_number c) = message v ∙ ap says e in

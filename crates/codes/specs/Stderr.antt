@@ -5,8 +5,7 @@ use Rattle.layouts.specs.Stderr as Number
 use Rattle.layouts.specs.Stderr.{Message, no_code, terminal, goes, message_of}
 use Rattle.codes.specs.declared.StderrCode.{StderrCode}
 use Rattle.codes.specs.declared.StderrCode.TheVariants.{Next, Read, Write, Last, Error, StartActivity, StopActivity, Result}
-use Rattle.codes.specs.declared.StderrFound.{StderrFound}
-use Rattle.codes.specs.declared.StderrFound.TheVariants.{Code, None}
+use Rattle.std.specs.Prelude.{Option, Some, None}
 
 abbrev pub code_number : StderrCode → ℕ
 code_number Next = Number.Next
@@ -18,16 +17,16 @@ code_number StartActivity = Number.StartActivity
 code_number StopActivity = Number.StopActivity
 code_number Result = Number.Result#
 
-unfoldable pub code_of : ℕ → StderrFound
+unfoldable pub code_of : ℕ → Option StderrCode
 code_of v =
-    pick (eqb v Number.Next) (Code Next)
-    (pick (eqb v Number.Read) (Code Read)
-    (pick (eqb v Number.Write) (Code Write)
-    (pick (eqb v Number.Last) (Code Last)
-    (pick (eqb v Number.Error) (Code Error)
-    (pick (eqb v Number.StartActivity) (Code StartActivity)
-    (pick (eqb v Number.StopActivity) (Code StopActivity)
-    (pick (eqb v Number.Result#) (Code Result) None)))))))
+    pick (eqb v Number.Next) (Some Next)
+    (pick (eqb v Number.Read) (Some Read)
+    (pick (eqb v Number.Write) (Some Write)
+    (pick (eqb v Number.Last) (Some Last)
+    (pick (eqb v Number.Error) (Some Error)
+    (pick (eqb v Number.StartActivity) (Some StartActivity)
+    (pick (eqb v Number.StopActivity) (Some StopActivity)
+    (pick (eqb v Number.Result#) (Some Result) None)))))))
 
 -- does the loop end at such a message?
 abbrev pub ends : Message → Bool

@@ -31,27 +31,21 @@ pub enum StderrCode {
     Result,
 }
 
-#[derive(Drop)]
-pub enum StderrFound {
-    Code(StderrCode),
-    None,
-}
-
 impl StderrCode {
     // The code that has this number.
-    pub fn from_u64(v: u64) -> StderrFound
+    pub fn from_u64(v: u64) -> Option<StderrCode>
         ensures { result ≡ code_of v }
     {
         match v {
-            NEXT => StderrFound::Code(StderrCode::Next),
-            READ => StderrFound::Code(StderrCode::Read),
-            WRITE => StderrFound::Code(StderrCode::Write),
-            LAST => StderrFound::Code(StderrCode::Last),
-            ERROR => StderrFound::Code(StderrCode::Error),
-            START_ACTIVITY => StderrFound::Code(StderrCode::StartActivity),
-            STOP_ACTIVITY => StderrFound::Code(StderrCode::StopActivity),
-            RESULT => StderrFound::Code(StderrCode::Result),
-            _ => StderrFound::None,
+            NEXT => Some(StderrCode::Next),
+            READ => Some(StderrCode::Read),
+            WRITE => Some(StderrCode::Write),
+            LAST => Some(StderrCode::Last),
+            ERROR => Some(StderrCode::Error),
+            START_ACTIVITY => Some(StderrCode::StartActivity),
+            STOP_ACTIVITY => Some(StderrCode::StopActivity),
+            RESULT => Some(StderrCode::Result),
+            _ => None,
         }
     }
 

@@ -10,9 +10,10 @@ use Rattle.layouts.specs.Primitive.{no_such_entry, bad_entry, Result, ok, refuse
 use Rattle.layouts.specs.declared.Refusal.{Refusal}
 use Rattle.layouts.specs.Refusal.{plain, refused_by}
 use Rattle.layouts.specs.Writers.{slots_of, entry_start, entry_length, view_of}
-use Rattle.entries.specs.declared.Located.{Located}
-use Rattle.entries.specs.declared.Located.TheVariants.{Part, Refused}
 use Rattle.entries.specs.Entries.{place_of, found}
+use Rattle.entries.specs.declared.Located.{Located}
+use Rattle.std.specs.Prelude as Std
+use Rattle.std.specs.Prelude.{Ok, Err}
 
 abbrev numbers_of : Result (ℕ × ℕ) → ℕ × ℕ
 numbers_of (ok p) = p
@@ -51,8 +52,8 @@ module _ (bytes es : List ℕ) (i : ℕ) where
     pub within : start + len ≤ length bytes
     pub view : view_of bytes es i ≡ ok (take len (drop start bytes))
 
-  module _ (f : Located) (e : found f ≡ place_of bytes es i) where
-    pub inside : (start len : ℕ) → f ≡ Part start len → Inside start len
+  module _ (f : Std.Result Located Refusal) (e : found f ≡ place_of bytes es i) where
+    pub inside : (start len : ℕ) → f ≡ Ok (record { start = start; len = len }) → Inside start len
     inside start len q = go (dec_lt i (slots_of es)) (dec_le (entry_start es i + entry_length es i) (length bytes))
       where
         answered : (v : Result (List ℕ)) → view_of bytes es i ≡ v → ok (start, len) ≡ place_in v
@@ -68,7 +69,7 @@ module _ (bytes es : List ℕ) (i : ℕ) where
         go (no h) g = let p = answered _ (none (omega arith)) in let z : ◌≡◌ {A = ℕ} 0 1 = cc in absurd (omega arith)
 
     -- and where it is refused, so is the view
-    pub refused_view : (x : Refusal) → f ≡ Refused x → view_of bytes es i ≡ refused_by x
+    pub refused_view : (x : Refusal) → f ≡ Err x → view_of bytes es i ≡ refused_by x
     refused_view x q = go (view_of bytes es i) (sym (ap found q) ∙ e)
       where
         go : (v : Result (List ℕ)) → refused_by x ≡ place_in v → v ≡ refused_by x

@@ -4,11 +4,13 @@ use Rattle.layouts.specs.Primitive.{number_at, Result, ok, onward}
 use Rattle.layouts.specs.Refusal.{refused_by}
 use Rattle.layouts.specs.Writers.{entry_start, entry_length, view_of}
 use Rattle.entries.specs.declared.Located.{Located}
-use Rattle.entries.specs.declared.Located.TheVariants.{Part, Refused}
+use Rattle.std.specs.Prelude as Std
+use Rattle.layouts.specs.declared.Refusal.{Refusal}
+use Rattle.std.specs.Prelude.{Ok, Err}
 
--- how many entries there are, or is room for: two numbers make a slot, or sixteen bytes
-abbrev pub slots_in : (words bytes : List ℕ) → ℕ
-slots_in words bytes = length words / 2 + length bytes / 16
+-- how many entries there are in bytes, or is room for: sixteen make a slot
+abbrev pub slots_in : (bytes : List ℕ) → ℕ
+slots_in bytes = length bytes / 16
 
 -- n numbers from a place on
 unfoldable pub numbers_from : (n at : ℕ) → (bytes : List ℕ) → List ℕ
@@ -18,14 +20,10 @@ numbers_from (suc n) at b = number_at b at ∷ numbers_from n (at + 8) b
 abbrev pub entries_in : (bytes : List ℕ) → List ℕ
 entries_in b = numbers_from (2 * (length b / 16)) 0 b
 
--- the numbers of what is lent in both forms
-unfoldable pub numbers_in : (words bytes : List ℕ) → List ℕ
-numbers_in words bytes = words ++ entries_in bytes
-
 -- start and length of string number i
 abbrev pub place_of : (bytes entries : List ℕ) → (i : ℕ) → Result (ℕ × ℕ)
 place_of bytes es i = onward (view_of bytes es i) (λ c. ok (entry_start es i, entry_length es i))
 
-abbrev pub found : Located → Result (ℕ × ℕ)
-found (Part start len) = ok (start, len)
-found (Refused r) = refused_by r
+abbrev pub found : Std.Result Located Refusal → Result (ℕ × ℕ)
+found (Ok k) = ok (k.start, k.len)
+found (Err r) = refused_by r

@@ -1,11 +1,11 @@
 #![tactic(auto)]
-// Entries in lent memory: start and length of a string, as two numbers or as sixteen bytes. Who has the one form lends the other one empty; `number` alone knows
-// both. An entry may hold any numbers: the tests come before every sum.
-ghost use Rattle.std.specs.Prelude.{◌<◌, ◌≡◌, length, get_or};
-ghost use Rattle.entries.specs.Entries.{slots_in, numbers_in, place_of, found};
+// Entries in lent memory: start and length of a string, as two numbers or as sixteen bytes. An entry may hold any numbers: the tests come before every sum.
+ghost use Rattle.std.specs.Prelude.{ℕ, List, ◌*◌, ◌<◌, ◌≡◌, refl, get_or};
+ghost use Rattle.layouts.specs.Writers.{slots_of};
+ghost use Rattle.entries.specs.Entries.{slots_in, entries_in, place_of, found};
+ghost use Rattle.entries.specs.Forms.{bytes_counted};
 
 use layouts::Refusal;
-use numbers::Number;
 
 // How many numbers an entry is, and how many bytes.
 pub const NUMBERS: usize = 2;
@@ -15,52 +15,88 @@ pub const BYTES: usize = 16;
 // How many bytes a number takes.
 const WIDTH: usize = 8;
 
-// Where a string lies, or why there is none.
-#[derive(Drop)]
-pub enum Located {
-    Part { start: usize, len: usize },
-    Refused(Refusal),
+// Where a string lies.
+#[derive(Clone, Copy)]
+pub struct Located {
+    pub start: usize,
+    pub len: usize,
 }
 
-// How many entries there are, or is room for.
-pub fn slots(words: &[u64], bytes: &[u8]) -> usize
-    ensures { result ≡ slots_in words.now bytes.now }
-{
-    words.len() / NUMBERS + bytes.len() / BYTES
+// What entries are made of: numbers, two to an entry, or bytes, sixteen.
+pub trait Form {
+    // How many entries there are, or is room for.
+    ghost slots: { List Self → ℕ };
+
+    // Start and length of each, one after the other.
+    ghost numbers: { List Self → List ℕ };
+
+    fn slots(entries: &[Self]) -> usize
+        ensures slots { result ≡ slots entries.now }
+        ensures few { 2 * result < 18446744073709551616 };
+
+    // Number k of all, or 0 where there are not so many.
+    fn number(entries: &[Self], k: usize) -> u64
+        ensures { result ≡ get_or (numbers entries.now) k 0 };
+
+    ghost counted: { (es : List Self) → slots es ≡ slots_of (numbers es) };
 }
 
-// Number k of all entries.
-fn number(words: &[u64], bytes: &[u8], k: usize) -> u64
-    requires { k < length (numbers_in words.now bytes.now) }
-    ensures { result ≡ get_or (numbers_in words.now bytes.now) k 0 }
-{
-    if k < words.len() {
-        return words[k];
+impl Form for u64 {
+    ghost slots = { slots_of };
+
+    ghost numbers = { λ es. es };
+
+    ghost counted = { λ es. refl };
+
+    fn slots(entries: &[u64]) -> usize {
+        entries.len() / NUMBERS
     }
-    match pieces::number_at(bytes, WIDTH * (k - words.len())) {
-        Number::Value(n) => n,
-        Number::Short => 0,
+
+    fn number(entries: &[u64], k: usize) -> u64 {
+        if k < entries.len() {
+            return entries[k];
+        }
+        0
     }
 }
 
-// Where string number i lies in s.
-pub fn find(s: &[u8], words: &[u64], bytes: &[u8], i: usize) -> Located
-    ensures { found result ≡ place_of s.now (numbers_in words.now bytes.now) i }
-{
-    if slots(words, bytes) <= i {
-        return Located::Refused(layouts::refuse(layouts::NO_SUCH_ENTRY, i));
+impl Form for u8 {
+    ghost slots = { slots_in };
+
+    ghost numbers = { entries_in };
+
+    ghost counted = { bytes_counted };
+
+    fn slots(entries: &[u8]) -> usize {
+        entries.len() / BYTES
     }
-    let start = number(words, bytes, NUMBERS * i);
-    let len = number(words, bytes, NUMBERS * i + 1);
+
+    fn number(entries: &[u8], k: usize) -> u64 {
+        if k < NUMBERS * (entries.len() / BYTES) {
+            return pieces::number_at(entries, WIDTH * k).unwrap_or(0);
+        }
+        0
+    }
+}
+
+// Where string number i lies in s, or why there is none.
+pub fn find<T: Form>(s: &[u8], entries: &[T], i: usize) -> Result<Located, Refusal>
+    ensures { found result ≡ place_of s.now (T.numbers entries.now) i }
+{
+    if T::slots(entries) <= i {
+        return Err(layouts::refuse(layouts::NO_SUCH_ENTRY, i));
+    }
+    let start = T::number(entries, NUMBERS * i);
+    let len = T::number(entries, NUMBERS * i + 1);
     let n = s.len() as u64;
     if n < start {
-        return Located::Refused(layouts::refuse(layouts::BAD_ENTRY, i));
+        return Err(layouts::refuse(layouts::BAD_ENTRY, i));
     }
     if n - start < len {
-        return Located::Refused(layouts::refuse(layouts::BAD_ENTRY, i));
+        return Err(layouts::refuse(layouts::BAD_ENTRY, i));
     }
-    Located::Part {
+    Ok(Located {
         start: start as usize,
         len: len as usize,
-    }
+    })
 }

@@ -13,7 +13,6 @@ use Rattle.layouts.specs.Handshake.{heard_entries}
 use Rattle.layouts.specs.Cut.{CutOrLonger, RefusedAsCut}
 use Rattle.layouts.proofs.CutTalk.{handshake_client_whole, handshake_daemon_whole, daemon_handshake_whole}
 use Rattle.walk_judge.specs.declared.Answer.{Answer}
-use Rattle.walk_judge.specs.declared.Outcome.TheVariants.{Fine, Refused}
 use Rattle.walk_judge.proofs.Cut.{answered_room}
 use Rattle.walk_rooms.specs.Rooms.{LentRead}
 use Rattle.handshake.specs.Greeted.{both_read, alone_read}
@@ -22,13 +21,14 @@ use Rattle.handshake.proofs.parse_handshake.Reads as parse-handshake
 use Rattle.handshake.proofs.parse_handshake.Kinds as parse-handshake-kinds
 use Rattle.handshake.proofs.parse_daemon_handshake.Reads as parse-daemon-handshake
 use Rattle.handshake.proofs.parse_daemon_handshake.Kinds as parse-daemon-handshake-kinds
+use Rattle.std.specs.Prelude.{Ok, Err}
 
 -- ---- both sides
 module _ (κs : Lfts 3) (a : Dens κs parse-handshake-kinds.ps) (r : Answer) (x : AtExit (ended_of 3 parse-handshake-kinds.ps parse-handshake-kinds.r) κs) (p : parse-handshake.Post κs a r x)
     (κs' : Lfts 3) (a' : Dens κs' parse-handshake-kinds.ps) (r' : Answer) (x' : AtExit (ended_of 3 parse-handshake-kinds.ps parse-handshake-kinds.r) κs')
-    (q : parse-handshake.Post κs' a' r' x') (room : entries_at a' ≡ entries_at a) (fine : r.outcome ≡ Fine) where
+    (q : parse-handshake.Post κs' a' r' x') (room : entries_at a' ≡ entries_at a) (fine : r.outcome ≡ Ok tt) where
   abbrev AsCut : (stream : ℕ) → Type 0
-  AsCut stream = RefusedAsCut Refused stream r'.outcome × (entries_after x' ≡ entries_at a')
+  AsCut stream = RefusedAsCut Err stream r'.outcome × (entries_after x' ≡ entries_at a')
 
   abbrev Same : Type 0
   Same = (r' ≡ r) × (entries_after x' ≡ entries_after x)
@@ -58,8 +58,8 @@ module _ (κs : Lfts 3) (a : Dens κs parse-handshake-kinds.ps) (r : Answer) (x 
 pub parse_daemon_handshake_whole : (κs : Lfts 2) (a : Dens κs parse-daemon-handshake-kinds.ps) (r : Answer)
     (x : AtExit (ended_of 2 parse-daemon-handshake-kinds.ps parse-daemon-handshake-kinds.r) κs) → parse-daemon-handshake.Post κs a r x
     → (κs' : Lfts 2) (a' : Dens κs' parse-daemon-handshake-kinds.ps) (r' : Answer) (x' : AtExit (ended_of 2 parse-daemon-handshake-kinds.ps parse-daemon-handshake-kinds.r) κs')
-    → parse-daemon-handshake.Post κs' a' r' x' → version_of a' ≡ version_of a → room_at a' ≡ room_at a → r.outcome ≡ Fine
-    → CutOrLonger r.ends2 (stream_of a) (stream_of a') (RefusedAsCut Refused 1 r'.outcome × (room_after x' ≡ room_at a')) ((r' ≡ r) × (room_after x' ≡ room_after x))
+    → parse-daemon-handshake.Post κs' a' r' x' → version_of a' ≡ version_of a → room_at a' ≡ room_at a → r.outcome ≡ Ok tt
+    → CutOrLonger r.ends2 (stream_of a) (stream_of a') (RefusedAsCut Err 1 r'.outcome × (room_after x' ≡ room_at a')) ((r' ≡ r) × (room_after x' ≡ room_after x))
 parse_daemon_handshake_whole κs a r x p κs' a' r' x' q v room fine =
     let u = daemon_handshake_whole (length (room_at a) / 2) (version_of a) in
     let readAlone : Version → List ℕ → LentRead Answer = λ c lent. alone_read c (stream_of a') (length lent / 2) (λ es. es) lent in

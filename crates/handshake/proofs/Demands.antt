@@ -25,7 +25,6 @@ use Rattle.layouts.proofs.Placed.{never_both}
 use Rattle.layouts.proofs.Theorems.{view_kept}
 use Rattle.layouts.proofs.Talk.{soft_hear, unless_heard_lem, soft_handshake, soft_rest_handshake, soft_daemon_handshake, soft_rest_daemon_handshake}
 use Rattle.walk_judge.specs.declared.Answer.{Answer}
-use Rattle.walk_judge.specs.declared.Outcome.TheVariants.{Fine, Refused}
 use Rattle.walk_judge.specs.Judged.{answer_as}
 use Rattle.walk_judge.proofs.Answers.{answer_fine, refused_keeps, fine_reports, beyond}
 use Rattle.walk_judge.proofs.Cut.{said_by}
@@ -34,6 +33,7 @@ use Rattle.handshake.proofs.parse_handshake.Reads as parse-handshake
 use Rattle.handshake.proofs.parse_handshake.Kinds as parse-handshake-kinds
 use Rattle.handshake.proofs.parse_daemon_handshake.Reads as parse-daemon-handshake
 use Rattle.handshake.proofs.parse_daemon_handshake.Kinds as parse-daemon-handshake-kinds
+use Rattle.std.specs.Prelude.{Ok, Err}
 
 -- ---- the arguments of `parse_handshake`, by name: both streams, and the room that is lent for entries; that room at exit
 abbrev pub Streams : Type 0 → Type 0
@@ -136,11 +136,11 @@ module _ (κs : Lfts 3) (a : Dens κs parse-handshake-kinds.ps) (r : Answer) (x 
   handshake_said = parse_handshake (client_of a) (daemon_of a) (length (entries_at a) / 2)
 
   -- a refusal changes no lent memory
-  pub handshake_refused : (y : Refusal) → r.outcome ≡ Refused y → entries_after x ≡ entries_at a
+  pub handshake_refused : (y : Refusal) → r.outcome ≡ Err y → entries_after x ≡ entries_at a
   handshake_refused y f = refused_keeps r handshake_said p.0 y f _ _ _ p.1
 
   -- a success writes only what it reports
-  pub handshake_written : r.outcome ≡ Fine → drop (2 * r.found.entries) (entries_after x) ≡ drop (2 * r.found.entries) (entries_at a)
+  pub handshake_written : r.outcome ≡ Ok tt → drop (2 * r.found.entries) (entries_after x) ≡ drop (2 * r.found.entries) (entries_at a)
   handshake_written f =
       beyond (2 * r.found.entries) (heard_entries (heard_in a)) _ _
       (handshake_counted (client_of a) (daemon_of a) _ _ (answer_fine r handshake_said p.0 f)).0
@@ -152,11 +152,11 @@ module _ (κs : Lfts 2) (a : Dens κs parse-daemon-handshake-kinds.ps) (r : Answ
   daemon_said = parse_daemon_handshake (version_of a) (stream_of a) (length (room_at a) / 2)
 
   -- a refusal changes no lent memory
-  pub daemon_handshake_refused : (y : Refusal) → r.outcome ≡ Refused y → room_after x ≡ room_at a
+  pub daemon_handshake_refused : (y : Refusal) → r.outcome ≡ Err y → room_after x ≡ room_at a
   daemon_handshake_refused y f = refused_keeps r daemon_said p.0 y f _ _ _ p.1
 
   -- a success writes only what it reports
-  pub daemon_handshake_written : r.outcome ≡ Fine → drop (2 * r.found.entries) (room_after x) ≡ drop (2 * r.found.entries) (room_at a)
+  pub daemon_handshake_written : r.outcome ≡ Ok tt → drop (2 * r.found.entries) (room_after x) ≡ drop (2 * r.found.entries) (room_at a)
   daemon_handshake_written f =
       beyond (2 * r.found.entries) (heard_entries (alone_in a)) _ _
       (daemon_counted (version_of a) (stream_of a) _ _ (answer_fine r daemon_said p.0 f)).0
@@ -164,7 +164,7 @@ module _ (κs : Lfts 2) (a : Dens κs parse-daemon-handshake-kinds.ps) (r : Answ
 
 -- ---- demand 3: both streams were read, and two others differ from them in contents and padding only
 module _ (κs : Lfts 3) (a : Dens κs parse-handshake-kinds.ps) (r : Answer) (x : AtExit (ended_of 3 parse-handshake-kinds.ps parse-handshake-kinds.r) κs)
-    (p : parse-handshake.Post κs a r x) (fine : r.outcome ≡ Fine) (κs' : Lfts 3) (a' : Dens κs' parse-handshake-kinds.ps) (r' : Answer)
+    (p : parse-handshake.Post κs a r x) (fine : r.outcome ≡ Ok tt) (κs' : Lfts 3) (a' : Dens κs' parse-handshake-kinds.ps) (r' : Answer)
     (x' : AtExit (ended_of 3 parse-handshake-kinds.ps parse-handshake-kinds.r) κs') (q : parse-handshake.Post κs' a' r' x')
     (client : SoftenedOn false (heard_in a) (client_of a) (client_of a')) (daemon : SoftenedOn true (heard_in a) (daemon_of a) (daemon_of a')) where
   meant : (e : Both) × Meant (client_of a) (daemon_of a) 0 (heard_in a) (λ y. from_wire (number_in y.found 1)) (said_by r) e
@@ -192,13 +192,13 @@ module _ (κs : Lfts 3) (a : Dens κs parse-handshake-kinds.ps) (r : Answer) (x 
       )
 
   -- its entries are as before
-  pub soft_kept_handshake : r'.outcome ≡ Fine → entries_after x' ≡ heard_entries (heard_in a) ++ drop (length (heard_entries (heard_in a))) (entries_at a')
+  pub soft_kept_handshake : r'.outcome ≡ Ok tt → entries_after x' ≡ heard_entries (heard_in a) ++ drop (length (heard_entries (heard_in a))) (entries_at a')
   soft_kept_handshake f =
       fine_reports r' (handshake_said κs' a' r' x' q) q.0 f _ _ _ q.1 ∙
       ap (λ (h : Heard). heard_entries h ++ drop (length (heard_entries h)) (entries_at a')) (soft_hear handshake blank (client_of a) (client_of a') (daemon_of a) (daemon_of a') client daemon)
 
   -- string number i that it keeps, on its stream, is the one that was there, where none of its bytes was changed
-  pub soft_string_handshake : r'.outcome ≡ Fine → (i : ℕ) → i < kept_heard (heard_in a) → (of-daemon : Bool)
+  pub soft_string_handshake : r'.outcome ≡ Ok tt → (i : ℕ) → i < kept_heard (heard_in a) → (of-daemon : Bool)
       → Untouched (pick of-daemon (daemon_of a) (client_of a)) (pick of-daemon (daemon_of a') (client_of a')) (entry_start (heard_entries (heard_in a)) i) (entry_length (heard_entries (heard_in a)) i)
       → feature_of of-daemon (client_of a') (daemon_of a') (entries_after x') i ≡ feature_of of-daemon (client_of a) (daemon_of a) (heard_entries (heard_in a)) i
   soft_string_handshake f i h false t =
@@ -210,7 +210,7 @@ module _ (κs : Lfts 3) (a : Dens κs parse-handshake-kinds.ps) (r : Answer) (x 
 
 -- ---- the same of the daemon's stream alone, for the same version of the client
 module _ (κs : Lfts 2) (a : Dens κs parse-daemon-handshake-kinds.ps) (r : Answer) (x : AtExit (ended_of 2 parse-daemon-handshake-kinds.ps parse-daemon-handshake-kinds.r) κs)
-    (p : parse-daemon-handshake.Post κs a r x) (fine : r.outcome ≡ Fine) (κs' : Lfts 2) (a' : Dens κs' parse-daemon-handshake-kinds.ps) (r' : Answer)
+    (p : parse-daemon-handshake.Post κs a r x) (fine : r.outcome ≡ Ok tt) (κs' : Lfts 2) (a' : Dens κs' parse-daemon-handshake-kinds.ps) (r' : Answer)
     (x' : AtExit (ended_of 2 parse-daemon-handshake-kinds.ps parse-daemon-handshake-kinds.r) κs') (q : parse-daemon-handshake.Post κs' a' r' x')
     (v : version_of a' ≡ version_of a) (soft : SoftenedOn true (alone_in a) (stream_of a) (stream_of a')) where
   alone_meant : (e : Both) × Meant [] (stream_of a) 0 (alone_in a) (λ y. version_of a) (said_by r) e
@@ -238,7 +238,7 @@ module _ (κs : Lfts 2) (a : Dens κs parse-daemon-handshake-kinds.ps) (r : Answ
       )
 
   -- its entries are as before
-  pub soft_kept_daemon_handshake : r'.outcome ≡ Fine → room_after x' ≡ heard_entries (alone_in a) ++ drop (length (heard_entries (alone_in a))) (room_at a')
+  pub soft_kept_daemon_handshake : r'.outcome ≡ Ok tt → room_after x' ≡ heard_entries (alone_in a) ++ drop (length (heard_entries (alone_in a))) (room_at a')
   soft_kept_daemon_handshake f =
       let same : hear (daemon_handshake (version_of a')) [] (stream_of a') 0 0 blank ≡ alone_in a =
       ap (λ (c : Version). hear (daemon_handshake c) [] (stream_of a') 0 0 blank) v ∙
@@ -247,7 +247,7 @@ module _ (κs : Lfts 2) (a : Dens κs parse-daemon-handshake-kinds.ps) (r : Answ
       ap (λ (h : Heard). heard_entries h ++ drop (length (heard_entries h)) (room_at a')) same
 
   -- string number i that it keeps is the one that was there, where none of its bytes was changed
-  pub soft_string_daemon_handshake : r'.outcome ≡ Fine → (i : ℕ) → i < kept_heard (alone_in a)
+  pub soft_string_daemon_handshake : r'.outcome ≡ Ok tt → (i : ℕ) → i < kept_heard (alone_in a)
       → Untouched (stream_of a) (stream_of a') (entry_start (heard_entries (alone_in a)) i) (entry_length (heard_entries (alone_in a)) i)
       → view_of (stream_of a') (room_after x') i ≡ view_of (stream_of a) (heard_entries (alone_in a)) i
   soft_string_daemon_handshake f i h t =

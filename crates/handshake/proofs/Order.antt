@@ -1,5 +1,5 @@
 -- Versions as numbers.
-use Prim.Native.Nat.{ℕ, ◌+◌, ◌*◌, ◌/◌, ◌%◌, ◌≤◌, ◌<◌}
+use Prim.Native.Nat.{ℕ, ◌+◌, ◌*◌, ◌/◌, ◌%◌, ◌≤◌, ◌<◌, min}
 use mathlib.Core.Path.{◌≡◌, refl, sym, ◌∙◌, ap}
 use mathlib.Core.List.{[], ◌∷◌}
 use mathlib.Core.Bool.{Bool, true, false}
@@ -28,6 +28,13 @@ module _ (v w : ℕ) where
 
   pub in_order : leb w v ≡ at_least (version_in v) (version_in w)
   in_order = by_major (eqb (v / 256) (w / 256)) refl
+
+pub min_as : (v w : ℕ) → min v w ≡ pick (leb w v) w v
+min_as v w = by (dec_le w v)
+  where
+    by : Dec (w ≤ v) → min v w ≡ pick (leb w v) w v
+    by (yes h) = rw (le-leb w v h) (omega arith)
+    by (no h) = rw (lt-leb w v (omega arith)) (omega arith)
 
 pub smaller_in : (c d v : ℕ) → v ≡ pick (leb d c) d c → version_in v ≡ smaller (version_in c) (version_in d)
 smaller_in c d v e = ap version_in e ∙ by (leb d c) ∙ ap (λ (b : Bool). pick b (version_in d) (version_in c)) (in_order c d)

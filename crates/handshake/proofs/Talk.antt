@@ -1,6 +1,6 @@
 -- A talk that is judged turn by turn, with the entries that each turn keeps: what is left of it, judged so, makes the whole.
 use Prim.Native.Nat.{ℕ, ◌+◌, ◌-◌, ◌*◌, ◌≤◌}
-use mathlib.Core.Path.{◌≡◌, refl, sym, ◌∙◌, ap, subst}
+use mathlib.Core.Path.{◌≡◌, refl, sym, ◌∙◌, ap}
 use mathlib.Core.List.{List, [], ◌∷◌, ◌++◌, append-nil}
 use mathlib.Core.Bool.{Bool, true, false}
 use native.Mathlib.Omega.{arith}
@@ -25,23 +25,20 @@ use Rattle.table.specs.Table.{version_in}
 use Rattle.walk_items.specs.Items.{layout_tree}
 use Rattle.walk_take.specs.Taking.{in_window, ahead}
 use Rattle.walk_take.proofs.Pieces.{nothing_in}
-use Rattle.walk_judge.specs.declared.Said.{Said}
 use Rattle.walk_judge.specs.declared.Answer.{Answer}
 use Rattle.walk_judge.specs.Judged.{gathered, answer_of, answer_as}
 use Rattle.walk_judge.proofs.Answers.{answer_refused}
 use Rattle.walk_rooms.proofs.Laws.{sets_join}
 use Rattle.walk_fill.specs.There.{run_there, pieces_there}
 use Rattle.walk_fill.proofs.There.{all_there}
-use Rattle.handshake.specs.declared.Hello.{Hello}
-use Rattle.handshake.specs.declared.Hello.TheVariants as H
-use Rattle.handshake.specs.declared.Features.{Features}
-use Rattle.handshake.specs.declared.Features.TheVariants as F
-use Rattle.handshake.specs.declared.Place.{Place}
-use Rattle.handshake.specs.declared.Place.TheVariants as P
-use Rattle.handshake.specs.declared.Info.{Info}
-use Rattle.handshake.specs.declared.Info.TheVariants as I
-use Rattle.handshake.specs.Turns.{hello_to, features_to, features_in, info_to, info_in, told_of, met_at, heard_from, judge_talk, answer_talk, entries_talk, reported, Greets}
+use Rattle.handshake.specs.Turns.{hello_to, features_to, JudgesFeatures, info_to, info_in, told_of, met_at, heard_from, judge_talk, answer_talk, entries_talk, reported, Greets}
 use Rattle.handshake.proofs.Quiet.{Quiet, hello_quiet}
+use Rattle.walk_judge.specs.declared.Said.{Said}
+use Rattle.handshake.specs.declared.Hello.{Hello}
+use Rattle.handshake.specs.declared.Features.{Features}
+use Rattle.handshake.specs.declared.Info.{Info}
+use Rattle.std.specs.Prelude as Std
+use Rattle.std.specs.Prelude.{Ok, Err}
 
 -- ---- the window: some entries, then others
 window_join : (w : List ℕ) (n : ℕ) (es : List ℕ) (m : ℕ) (fs : List ℕ) → 2 * n + length es ≡ 2 * m → in_window (in_window w n es) m fs ≡ in_window w n (es ++ fs)
@@ -132,11 +129,6 @@ module _ (s u : List ℕ) (slots : ℕ) (d : Bool) (t : Tree) (k : Record → �
     there_on : (l : ℕ) → t ≡ layout_tree l → entries_of (pieces_there l on (place_on d x)) ≡ entries_of these
     there_on l q = ap (λ (z : Tree). entries_of (run_there z on (place_on d x))) (sym q) ∙ ap entries_of (all_there on t (place_on d x) e.ends read.skips)
 
--- numbers that were passed
-abbrev pub place_ended : Record → Place → Result Ended
-place_ended x (P.Past at) = ok (record { found = x; ends = at })
-place_ended x (P.Refused r) = refused_by r
-
 -- ---- what is reported of an answer
 report : {A : Type 0} (o : Result A) (f : List ℕ → List ℕ) (a b : List ℕ) → reported o a ≡ reported o b → reported o (f a) ≡ reported o (f b)
 report (ok x) f a b e = ap f e
@@ -146,10 +138,10 @@ nothing_reported : {A : Type 0} (o : Result A) (which place stream : ℕ) → o 
 nothing_reported o which place stream e a b = ap (λ (p : Result _). reported p a) e ∙ sym (ap (λ (p : Result _). reported p b) e)
 
 module _ (s u : List ℕ) (slots : ℕ) (given : ℕ → Version) where
-  abbrev Left : Talk → Both → (w : List ℕ) → Said → (ns cs kept w' : List ℕ) → Type 0
+  abbrev Left : Talk → Both → (w : List ℕ) → Std.Result Said Refusal → (ns cs kept w' : List ℕ) → Type 0
   Left = Greets s u slots given
 
-  pub greets_as : (t t' : Talk) (x : Both) (w : List ℕ) (said : Said) (ns cs kept w' : List ℕ) → t ≡ t' → Left t x w said ns cs kept w' → Left t' x w said ns cs kept w'
+  pub greets_as : (t t' : Talk) (x : Both) (w : List ℕ) (said : Std.Result Said Refusal) (ns cs kept w' : List ℕ) → t ≡ t' → Left t x w said ns cs kept w' → Left t' x w said ns cs kept w'
   greets_as t t' x w said ns cs kept w' e g = rw (← e) g
 
   answer_by : (t : Talk) (x : Both) (o : Result Both) → judge_talk s u slots t x ≡ o
@@ -157,7 +149,7 @@ module _ (s u : List ℕ) (slots : ℕ) (given : ℕ → Version) where
   unfolding answer_talk
   answer_by t x o e = ap (λ (p : Result Both). onward p (λ y. handshake_answer (given (number_in y.found 1)) y)) e
 
-  module _ (w : List ℕ) (said : Said) (ns cs kept w' : List ℕ) where
+  module _ (w : List ℕ) (said : Std.Result Said Refusal) (ns cs kept w' : List ℕ) where
     -- a refusal
     module _ (x : Both) (which place stream : ℕ) (h : answer_of said ns cs ≡ answer_as (refused which place stream)) where
       greets_refused : (t : Talk) → judge_talk s u slots t x ≡ refused which place stream → Left t x w said ns cs kept w'
@@ -206,72 +198,70 @@ module _ (s u : List ℕ) (slots : ℕ) (given : ℕ → Version) where
     greets_quiet d t f k x e j g = greets_turn d t k x e j [] w (sym (f (pick d u s) (place_on d x))) (sym (nothing_in w x.found.entries)) g
 
     -- ---- a hello
-    module _ (d : Bool) (i j : ℕ) (k : Record → ℕ → Talk) (x : Both) (start : place_on d x ≡ 0) (r : Hello)
-        (law : (slots : ℕ) (x : Record) (i j : ℕ) → judge_of (pick d u s) slots 0 x (run (hello i j) (pick d u s) 0) ≡ hello_to x i j r) where
-      heard_hello : (r' : Hello) → r ≡ r' → judge_of (pick d u s) slots 0 x.found (run (hello i j) (pick d u s) (place_on d x)) ≡ hello_to x.found i j r'
-      heard_hello r' q =
-          ap (λ (n : ℕ). judge_of (pick d u s) slots 0 x.found (run (hello i j) (pick d u s) n)) start ∙ law slots x.found i j ∙ ap (hello_to x.found i j) q
+    module _ (d : Bool) (i j : ℕ) (k : Record → ℕ → Talk) (x : Both) (start : place_on d x ≡ 0) where
+      abbrev Hears : Std.Result Hello Refusal → Type 0
+      Hears r = (slots : ℕ) (x : Record) (i j : ℕ) → judge_of (pick d u s) slots 0 x (run (hello i j) (pick d u s) 0) ≡ hello_to x i j r
 
-      pub hello_stops : (y : Refusal) → r ≡ H.Refused y → answer_of said ns cs ≡ answer_as (refused y.which y.place (stream_of d)) → Left (turn d (hello i j) k) x w said ns cs kept w'
-      hello_stops y q h = greets_stop d (hello i j) k x y (heard_hello (H.Refused y) q) h
+      heard_hello : (r : Std.Result Hello Refusal) → Hears r → judge_of (pick d u s) slots 0 x.found (run (hello i j) (pick d u s) (place_on d x)) ≡ hello_to x.found i j r
+      heard_hello r law = ap (λ (n : ℕ). judge_of (pick d u s) slots 0 x.found (run (hello i j) (pick d u s) n)) start ∙ law slots x.found i j
 
-      module _ (magic wire : ℕ) (q : r ≡ H.Said magic wire) where
+      pub hello_stops : (y : Refusal) → Hears (Err y) → answer_of said ns cs ≡ answer_as (refused y.which y.place (stream_of d)) → Left (turn d (hello i j) k) x w said ns cs kept w'
+      hello_stops y law h = greets_stop d (hello i j) k x y (heard_hello (Err y) law) h
+
+      module _ (h : Hello) (law : Hears (Ok h)) where
         abbrev known : Record
-        known = with_number (with_number x.found i magic) j wire
+        known = with_number (with_number x.found i h.magic) j h.wire
 
         pub hello_goes : Left (k known 16) (moved_on d x (record { found = known; ends = 16 })) w said ns cs kept w' → Left (turn d (hello i j) k) x w said ns cs kept w'
-        hello_goes g = greets_quiet d (hello i j) (hello_quiet i j) k x (record { found = known; ends = 16 }) (heard_hello (H.Said magic wire) q) g
+        hello_goes g = greets_quiet d (hello i j) (hello_quiet i j) k x (record { found = known; ends = 16 }) (heard_hello (Ok h) law) g
 
     -- ---- features
-    module _ (d : Bool) (i v : ℕ) (k : Talk) (x : Both) (w1 : List ℕ) (r : Features) (unset : set x.found.counts i 0 ≡ x.found.counts)
-        (law : (i : ℕ) (y : Record) → y.entries ≡ x.found.entries → set y.counts i 0 ≡ y.counts
-        → judge_of (pick d u s) slots 0 y (run (fields_at (version_in v) (feature_fields i)) (pick d u s) (place_on d x)) ≡ features_to y i r)
-        (keep : (i : ℕ) → features_in w1 (ahead w x.found.entries (run (fields_at (version_in v) (feature_fields i)) (pick d u s) (place_on d x))) r) where
+    module _ (d : Bool) (i v : ℕ) (k : Talk) (x : Both) (w1 : List ℕ) (unset : set x.found.counts i 0 ≡ x.found.counts) where
       abbrev features# : Tree
       features# = fields_at (version_in v) (feature_fields i)
 
-      judged_features : (r' : Features) → r ≡ r' → judge_of (pick d u s) slots 0 x.found (run features# (pick d u s) (place_on d x)) ≡ features_to x.found i r'
-      judged_features r' q = law i x.found refl unset ∙ ap (features_to x.found i) q
+      abbrev Judges : Std.Result Features Refusal → Type 0
+      Judges r = JudgesFeatures (pick d u s) slots (place_on d x) v x.found.entries w w1 r
 
-      pub features_stop : (y : Refusal) → r ≡ F.Refused y → answer_of said ns cs ≡ answer_as (refused y.which y.place (stream_of d))
-          → Left (turn d features# (λ r e. k)) x w said ns cs kept w'
-      features_stop y q h = greets_stop d features# (λ r e. k) x y (judged_features (F.Refused y) q) h
+      judged_features : (r : Std.Result Features Refusal) → Judges r → judge_of (pick d u s) slots 0 x.found (run features# (pick d u s) (place_on d x)) ≡ features_to x.found i r
+      judged_features r law = law.0 i x.found refl unset
 
-      module _ (at n count : ℕ) (q : r ≡ F.Past at n count) where
+      pub features_stop : (y : Refusal) → Judges (Err y) → answer_of said ns cs ≡ answer_as (refused y.which y.place (stream_of d)) → Left (turn d features# (λ r e. k)) x w said ns cs kept w'
+      features_stop y law h = greets_stop d features# (λ r e. k) x y (judged_features (Err y) law) h
+
+      module _ (f : Features) (law : Judges (Ok f)) where
         abbrev counted : Ended
-        counted = record { found = with_entries (with_count x.found i count) n; ends = at }
+        counted = record { found = with_entries (with_count x.found i f.count) f.entries; ends = f.at }
 
         features_on : (es : List ℕ) → es ≡ entries_of (run features# (pick d u s) (place_on d x)) → Left k (moved_on d x counted) w1 said ns cs kept w'
             → Left (turn d features# (λ r e. k)) x w said ns cs (es ++ kept) w'
-        features_on es there g =
-            let z : w1 ≡ ahead w x.found.entries (run features# (pick d u s) (place_on d x)) =
-            subst (features_in w1 (ahead w x.found.entries (run features# (pick d u s) (place_on d x)))) q (keep i) in
-            greets_turn d features# (λ r e. k) x counted (judged_features (F.Past at n count) q) es w1 there (z ∙ ap (in_window w x.found.entries) (sym there)) g
+        features_on es there g = greets_turn d features# (λ r e. k) x counted (judged_features (Ok f) law) es w1 there (law.1 i ∙ ap (in_window w x.found.entries) (sym there)) g
 
         pub features_go : (l : ℕ) → features# ≡ layout_tree l → Left k (moved_on d x counted) w1 said ns cs kept w'
             → Left (turn d features# (λ r e. k)) x w said ns cs (entries_of (pieces_there l (pick d u s) (place_on d x)) ++ kept) w'
-        features_go l tree g = features_on _ (there_on s u slots d features# (λ r e. k) x counted (judged_features (F.Past at n count) q) l tree) g
+        features_go l tree g = features_on _ (there_on s u slots d features# (λ r e. k) x counted (judged_features (Ok f) law) l tree) g
 
         -- where it is refused later
         pub features_past : (y : Refusal) → answer_of said ns cs ≡ answer_as (refused_by y) → Left k (moved_on d x counted) w1 said ns cs kept w'
             → Left (turn d features# (λ r e. k)) x w said ns cs kept w'
         features_past y h g =
-            let f = features_on (entries_of (run features# (pick d u s) (place_on d x))) refl g in
-            let o = answer_refused (answer_of said ns cs) (answer_talk s u slots given (turn d features# (λ r e. k)) x) y f.answer (ap (λ (a : Answer). a.outcome) h) in
+            let all = features_on (entries_of (run features# (pick d u s) (place_on d x))) refl g in
+            let o = answer_refused (answer_of said ns cs) (answer_talk s u slots given (turn d features# (λ r e. k)) x) y all.answer (ap (λ (a : Answer). a.outcome) h) in
             record {
-              answer = f.answer;
+              answer = all.answer;
               keeps = nothing_reported _ y.which y.place y.stream o kept _;
               window = nothing_reported _ y.which y.place y.stream o w' _;
             }
 
     -- ---- obsolete numbers
-    module _ (d : Bool) (t : Tree) (quiet : Quiet t) (k : Talk) (x : Both) (r : Place)
-        (law : judge_of (pick d u s) slots 0 x.found (run t (pick d u s) (place_on d x)) ≡ place_ended x.found r) where
-      pub passed_stop : (y : Refusal) → r ≡ P.Refused y → answer_of said ns cs ≡ answer_as (refused y.which y.place (stream_of d)) → Left (turn d t (λ r e. k)) x w said ns cs kept w'
-      passed_stop y q h = greets_stop d t (λ r e. k) x y (law ∙ ap (place_ended x.found) q) h
+    module _ (d : Bool) (t : Tree) (quiet : Quiet t) (k : Talk) (x : Both) where
+      pub passed_stop : (y : Refusal) → judge_of (pick d u s) slots 0 x.found (run t (pick d u s) (place_on d x)) ≡ refused_by y
+          → answer_of said ns cs ≡ answer_as (refused y.which y.place (stream_of d)) → Left (turn d t (λ r e. k)) x w said ns cs kept w'
+      passed_stop y law h = greets_stop d t (λ r e. k) x y law h
 
-      pub passed_go : (at : ℕ) → r ≡ P.Past at → Left k (moved_on d x (record { found = x.found; ends = at })) w said ns cs kept w' → Left (turn d t (λ r e. k)) x w said ns cs kept w'
-      passed_go at q g = greets_quiet d t quiet (λ r e. k) x (record { found = x.found; ends = at }) (law ∙ ap (place_ended x.found) q) g
+      pub passed_go : (at : ℕ) → judge_of (pick d u s) slots 0 x.found (run t (pick d u s) (place_on d x)) ≡ ok (record { found = x.found; ends = at })
+          → Left k (moved_on d x (record { found = x.found; ends = at })) w said ns cs kept w' → Left (turn d t (λ r e. k)) x w said ns cs kept w'
+      passed_go at law g = greets_quiet d t quiet (λ r e. k) x (record { found = x.found; ends = at }) law g
 
 -- ---- the daemon's last turn: what is told of it
 module _ (s u : List ℕ) (slots : ℕ) (given : ℕ → Version) (m1 w1 m2 w2 a b ends : ℕ) where
@@ -287,11 +277,11 @@ module _ (s u : List ℕ) (slots : ℕ) (given : ℕ → Version) (m1 w1 m2 w2 a
     abbrev last_of : Bool → Talk
     last_of t = pick t over (lost 8 (at - 8) 1)
 
-    last_told : answer_talk s u slots given (lastly (ended n at trust last).found at) (ended n at trust last) ≡ told_of (given w1) (from_wire w2) a b ends (I.Past at n trust last)
+    last_told : answer_talk s u slots given (lastly (ended n at trust last).found at) (ended n at trust last) ≡ told_of (given w1) (from_wire w2) a b ends (Ok (record { at = at; entries = n; trust = trust; last = last }))
     unfolding answer_talk judge_talk judge_heard hear
     last_told = by (eqb last Last)
       where
-        by : (t : Bool) → answer_talk s u slots given (last_of t) (ended n at trust last) ≡ pick t (told_of (given w1) (from_wire w2) a b ends (I.Past at n trust Last)) (refused 8 (at - 8) 1)
+        by : (t : Bool) → answer_talk s u slots given (last_of t) (ended n at trust last) ≡ pick t (told_of (given w1) (from_wire w2) a b ends (Ok (record { at = at; entries = n; trust = trust; last = Last }))) (refused 8 (at - 8) 1)
         by true = refl
         by false = refl
 
@@ -303,7 +293,7 @@ module _ (s u : List ℕ) (slots : ℕ) (given : ℕ → Version) (m1 w1 m2 w2 a
         by true = refl
         by false = refl
 
-  module _ (c d v n at : ℕ) (w : List ℕ) (said : Said) (ns cs w' : List ℕ) (l : ℕ) (tree : fields_at (version_in v) info_fields ≡ layout_tree l)
+  module _ (c d v n at : ℕ) (w : List ℕ) (said : Std.Result Said Refusal) (ns cs w' : List ℕ) (l : ℕ) (tree : fields_at (version_in v) info_fields ≡ layout_tree l)
       (fc : version_in c ≡ given w1) (fd : version_in d ≡ from_wire w2) where
     abbrev met : Both
     met = met_at m1 w1 m2 w2 a b n ends at
@@ -314,25 +304,25 @@ module _ (s u : List ℕ) (slots : ℕ) (given : ℕ → Version) (m1 w1 m2 w2 a
     abbrev Told : Talk → List ℕ → Type 0
     Told t kept = Greets s u slots given t met w said ns cs kept w'
 
-    informed : (i : Info) → judge_of u slots 0 met.found (run info# u at) ≡ info_to met.found i → info_in w' (ahead w n (run info# u at)) i
+    informed : (i : Std.Result Info Refusal) → judge_of u slots 0 met.found (run info# u at) ≡ info_to met.found i → info_in w' (ahead w n (run info# u at)) i
         → answer_of said ns cs ≡ answer_as (told_of (given w1) (from_wire w2) a b ends i) → Told (turn true info# (λ r e. lastly r e)) (entries_of (pieces_there l u at))
-    informed (I.Refused r) law keep h = greets_stop s u slots given w said ns cs _ w' true info# (λ r e. lastly r e) met r law h
-    informed (I.Past at' n' trust last) law keep h =
-        let y = ended n' at' trust last in
-        let there = there_on s u slots true info# (λ r e. lastly r e) met (record { found = y.found; ends = at' }) law l tree in
+    informed (Err r) law keep h = greets_stop s u slots given w said ns cs _ w' true info# (λ r e. lastly r e) met r law h
+    informed (Ok k) law keep h =
+        let y = ended k.entries k.at k.trust k.last in
+        let there = there_on s u slots true info# (λ r e. lastly r e) met (record { found = y.found; ends = k.at }) law l tree in
         let es = entries_of (pieces_there l u at) in
-        let o = answer_talk s u slots given (lastly y.found at') y in
-        let q = last_quiet n' at' trust last in
-        let g : Greets s u slots given (lastly y.found at') y w' said ns cs [] w' =
+        let o = answer_talk s u slots given (lastly y.found k.at) y in
+        let q = last_quiet k.entries k.at k.trust k.last in
+        let g : Greets s u slots given (lastly y.found k.at) y w' said ns cs [] w' =
         record {
-          answer = h ∙ ap answer_as (sym (last_told n' at' trust last));
+          answer = h ∙ ap answer_as (sym (last_told k.entries k.at k.trust k.last));
           keeps = ap (reported o) (sym q);
-          window = ap (reported o) (sym (ap (in_window w' n') q ∙ nothing_in w' n'));
+          window = ap (reported o) (sym (ap (in_window w' k.entries) q ∙ nothing_in w' k.entries));
         } in
         rw (append-nil es) at
-        (greets_turn s u slots given w said ns cs [] w' true info# (λ r e. lastly r e) met (record { found = y.found; ends = at' }) law es w' there (keep ∙ ap (in_window w n) (sym there)) g)
+        (greets_turn s u slots given w said ns cs [] w' true info# (λ r e. lastly r e) met (record { found = y.found; ends = k.at }) law es w' there (keep ∙ ap (in_window w n) (sym there)) g)
 
-    pub greets_told : (i : Info) → ((x : Record) → x.entries ≡ n → set x.numbers 4 0 ≡ x.numbers → judge_of u slots 0 x (run info# u at) ≡ info_to x i)
+    pub greets_told : (i : Std.Result Info Refusal) → ((x : Record) → x.entries ≡ n → set x.numbers 4 0 ≡ x.numbers → judge_of u slots 0 x (run info# u at) ≡ info_to x i)
         → info_in w' (ahead w n (run info# u at)) i → answer_of said ns cs ≡ answer_as (told_of (version_in c) (version_in d) a b ends i) → Told (daemon_info (version_in v)) (entries_of (pieces_there l u at))
     unfolding daemon_info
     greets_told i law keep h =

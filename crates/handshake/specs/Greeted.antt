@@ -1,4 +1,4 @@
--- The entries of the turns that keep strings, from the places where these turns begin; answer and rooms of a call.
+-- The entries of the turns that keep strings, from the places where these turns begin; answer and room of a call.
 use Rattle.std.specs.Prelude.{ℕ, List, [], ◌++◌}
 use Rattle.layouts.specs.Primitive.{Version, from_wire}
 use Rattle.layouts.specs.Record.{blank}
@@ -7,8 +7,7 @@ use Rattle.layouts.specs.Handshake.{Talk, Both, hear, heard_entries, handshake, 
 use Rattle.walk_judge.specs.declared.Answer.{Answer}
 use Rattle.walk_judge.specs.Judged.{answer_as}
 use Rattle.walk_fill.specs.There.{pieces_there}
-use Rattle.walk_rooms.specs.Rooms.{RoomsFilled, rooms_filled, LentRead, lent_read}
-use Rattle.entries.specs.Entries.{slots_in}
+use Rattle.walk_rooms.specs.Rooms.{RoomFilled, room_filled, LentRead, lent_read}
 use Rattle.handshake.specs.declared.Greeted.{Greeted}
 use Rattle.handshake.specs.Turns.{Greets}
 
@@ -31,12 +30,12 @@ both_entries s u = heard_entries (hear handshake s u 0 0 blank)
 abbrev pub alone_entries : Version → (u : List ℕ) → List ℕ
 alone_entries c u = heard_entries (hear (daemon_handshake c) [] u 0 0 blank)
 
--- ---- answer and rooms of a call
-abbrev pub both_filled : (s u words bytes : List ℕ) → RoomsFilled Answer
-both_filled s u words bytes = rooms_filled answer_as (parse_handshake s u (slots_in words bytes)) (both_entries s u) [] words bytes []
+-- ---- answer and room of a call, where n entries have room, and stand in a form
+abbrev pub both_filled : {A : Type 0} → (s u : List ℕ) → (n : ℕ) → (form : List ℕ → List A) → (lent : List A) → RoomFilled Answer A
+both_filled s u n form lent = room_filled answer_as (parse_handshake s u n) (form (both_entries s u)) [] lent []
 
-abbrev pub alone_filled : Version → (u words bytes : List ℕ) → RoomsFilled Answer
-alone_filled c u words bytes = rooms_filled answer_as (parse_daemon_handshake c u (slots_in words bytes)) (alone_entries c u) [] words bytes []
+abbrev pub alone_filled : {A : Type 0} → Version → (u : List ℕ) → (n : ℕ) → (form : List ℕ → List A) → (lent : List A) → RoomFilled Answer A
+alone_filled c u n form lent = room_filled answer_as (parse_daemon_handshake c u n) (form (alone_entries c u)) [] lent []
 
 -- with n slots in the lent room, where an entry is told by these numbers or bytes
 abbrev pub both_read : (s u : List ℕ) → (n : ℕ) → (told : List ℕ → List ℕ) → (lent : List ℕ) → LentRead Answer

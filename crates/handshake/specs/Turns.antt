@@ -12,71 +12,68 @@ use Rattle.layouts.specs.Stderr.{Last}
 use Rattle.layouts.specs.Handshake.{Talk, Heard, hear, Both, judge_heard, heard_entries, number_in, fields_at, feature_fields, info_fields, versions, handshake_answer}
 use Rattle.table.specs.Table.{version_in}
 use Rattle.walk_take.specs.Taking.{in_window, ahead}
-use Rattle.walk_judge.specs.declared.Said.{Said}
 use Rattle.walk_judge.specs.Judged.{gathered, answer_of, answer_as}
+use Rattle.walk_judge.specs.declared.Said.{Said}
 use Rattle.handshake.specs.declared.Hello.{Hello}
-use Rattle.handshake.specs.declared.Hello.TheVariants as H
 use Rattle.handshake.specs.declared.Features.{Features}
-use Rattle.handshake.specs.declared.Features.TheVariants as F
-use Rattle.handshake.specs.declared.Place.{Place}
-use Rattle.handshake.specs.declared.Place.TheVariants as P
 use Rattle.handshake.specs.declared.Trust.{Trust}
-use Rattle.handshake.specs.declared.Trust.TheVariants as T
 use Rattle.handshake.specs.declared.Info.{Info}
-use Rattle.handshake.specs.declared.Info.TheVariants as I
+use Rattle.std.specs.Prelude as Std
+use Rattle.layouts.specs.declared.Refusal.{Refusal}
+use Rattle.std.specs.Prelude.{Ok, Err}
 
 -- ---- one turn, with the record x so far
-abbrev pub hello_to : Record → (i j : ℕ) → Hello → Result Ended
-hello_to x i j (H.Said m w) = ok (record { found = with_number (with_number x i m) j w; ends = 16 })
-hello_to x i j (H.Refused r) = refused_by r
+abbrev pub hello_to : Record → (i j : ℕ) → Std.Result Hello Refusal → Result Ended
+hello_to x i j (Ok k) = ok (record { found = with_number (with_number x i k.magic) j k.wire; ends = 16 })
+hello_to x i j (Err r) = refused_by r
 
-abbrev pub features_to : Record → (i : ℕ) → Features → Result Ended
-features_to x i (F.Past at n count) = ok (record { found = with_entries (with_count x i count) n; ends = at })
-features_to x i (F.Refused r) = refused_by r
+abbrev pub features_to : Record → (i : ℕ) → Std.Result Features Refusal → Result Ended
+features_to x i (Ok k) = ok (record { found = with_entries (with_count x i k.count) k.entries; ends = k.at })
+features_to x i (Err r) = refused_by r
 
-abbrev pub info_to : Record → Info → Result Ended
-info_to x (I.Past at n trust last) = ok (record { found = with_number (with_number (with_entries x n) 4 trust) 5 last; ends = at })
-info_to x (I.Refused r) = refused_by r
+abbrev pub info_to : Record → Std.Result Info Refusal → Result Ended
+info_to x (Ok k) = ok (record { found = with_number (with_number (with_entries x k.entries) 4 k.trust) 5 k.last; ends = k.at })
+info_to x (Err r) = refused_by r
 
 -- the window afterwards, unless it was refused
-abbrev pub features_in : (window wanted : List ℕ) → Features → Type 0
-features_in w es (F.Past at n count) = w ≡ es
-features_in w es (F.Refused r) = Unit {0}
+abbrev pub features_in : (window wanted : List ℕ) → Std.Result Features Refusal → Type 0
+features_in w es (Ok k) = w ≡ es
+features_in w es (Err r) = Unit {0}
 
-abbrev pub info_in : (window wanted : List ℕ) → Info → Type 0
-info_in w es (I.Past at n trust last) = w ≡ es
-info_in w es (I.Refused r) = Unit {0}
+abbrev pub info_in : (window wanted : List ℕ) → Std.Result Info Refusal → Type 0
+info_in w es (Ok k) = w ≡ es
+info_in w es (Err r) = Unit {0}
 
 -- features, and the daemon's last turn, with n entries before: a count and trust that are not there stay 0
-abbrev pub JudgesFeatures : List ℕ → (slots at v n : ℕ) → (w w' : List ℕ) → Features → Type 0
+abbrev pub JudgesFeatures : List ℕ → (slots at v n : ℕ) → (w w' : List ℕ) → Std.Result Features Refusal → Type 0
 JudgesFeatures s slots at v n w w' r =
     ((i : ℕ) (x : Record) → x.entries ≡ n → set x.counts i 0 ≡ x.counts → judge_of s slots 0 x (run (fields_at (version_in v) (feature_fields i)) s at) ≡ features_to x i r)
     × ((i : ℕ) → features_in w' (ahead w n (run (fields_at (version_in v) (feature_fields i)) s at)) r)
 
-abbrev pub JudgesInfo : List ℕ → (slots at v n : ℕ) → (w w' : List ℕ) → Info → Type 0
+abbrev pub JudgesInfo : List ℕ → (slots at v n : ℕ) → (w w' : List ℕ) → Std.Result Info Refusal → Type 0
 JudgesInfo s slots at v n w w' r =
     ((x : Record) → x.entries ≡ n → set x.numbers 4 0 ≡ x.numbers → judge_of s slots 0 x (run (fields_at (version_in v) info_fields) s at) ≡ info_to x r)
     × info_in w' (ahead w n (run (fields_at (version_in v) info_fields) s at)) r
 
 -- ---- a part of a turn: what follows it is judged from there
-abbrev pub place_to : List ℕ → (slots : ℕ) → Record → (Unit {0} → Tree) → Place → Result Ended
-place_to s slots x k (P.Past at) = judge_of s slots 0 x (run (k tt) s at)
-place_to s slots x k (P.Refused r) = refused_by r
+abbrev pub place_to : List ℕ → (slots : ℕ) → Record → (Unit {0} → Tree) → Std.Result ℕ Refusal → Result Ended
+place_to s slots x k (Ok at) = judge_of s slots 0 x (run (k tt) s at)
+place_to s slots x k (Err r) = refused_by r
 
-abbrev pub Passed : List ℕ → (at : ℕ) → ((Unit {0} → Tree) → Tree) → Place → Type 0
+abbrev pub Passed : List ℕ → (at : ℕ) → ((Unit {0} → Tree) → Tree) → Std.Result ℕ Refusal → Type 0
 Passed s at t r = (slots : ℕ) (k : Unit {0} → Tree) (x : Record) → judge_of s slots 0 x (run (t k) s at) ≡ place_to s slots x k r
 
-abbrev pub trust_to : List ℕ → (slots : ℕ) → Record → (Unit {0} → Tree) → Trust → Result Ended
-trust_to s slots x k (T.Past at trust) = judge_of s slots 0 (with_number x 4 trust) (run (k tt) s at)
-trust_to s slots x k (T.Refused r) = refused_by r
+abbrev pub trust_to : List ℕ → (slots : ℕ) → Record → (Unit {0} → Tree) → Std.Result Trust Refusal → Result Ended
+trust_to s slots x k (Ok y) = judge_of s slots 0 (with_number x 4 y.trust) (run (k tt) s y.at)
+trust_to s slots x k (Err r) = refused_by r
 
 -- what is answered after the daemon's last turn, where a and b features were there and the client's stream ends at a place
 abbrev pub told_fine : (c d : Version) → (a b ends at n trust : ℕ) → L.Answer
 told_fine c d a b ends at n trust = record { kind = 0; ends = ends; ends2 = at; found = gathered (versions c d trust) (a ∷ b ∷ 0 ∷ []) false n 0 }
 
-abbrev pub told_of : (c d : Version) → (a b ends : ℕ) → Info → Result L.Answer
-told_of c d a b ends (I.Past at n trust last) = pick (eqb last Last) (ok (told_fine c d a b ends at n trust)) (refused not_last (at - 8) 1)
-told_of c d a b ends (I.Refused r) = refused r.which r.place 1
+abbrev pub told_of : (c d : Version) → (a b ends : ℕ) → Std.Result Info Refusal → Result L.Answer
+told_of c d a b ends (Ok k) = pick (eqb k.last Last) (ok (told_fine c d a b ends k.at k.entries k.trust)) (refused not_last (k.at - 8) 1)
+told_of c d a b ends (Err r) = refused r.which r.place 1
 
 -- ---- what both streams have said so far
 abbrev pub start : Both
@@ -107,7 +104,7 @@ reported (ok a) es = es
 reported (refused which place stream) es = []
 
 -- all of a talk was judged so: the answer; and where all is fine, the entries that are to be filled in, and the window
-pub record Greets (s u : List ℕ) (slots : ℕ) (given : ℕ → Version) (t : Talk) (x : Both) (w : List ℕ) (said : Said) (ns cs kept w' : List ℕ) : Type 0 where
+pub record Greets (s u : List ℕ) (slots : ℕ) (given : ℕ → Version) (t : Talk) (x : Both) (w : List ℕ) (said : Std.Result Said Refusal) (ns cs kept w' : List ℕ) : Type 0 where
   pub answer : answer_of said ns cs ≡ answer_as (answer_talk s u slots given t x)
   pub keeps : reported (answer_talk s u slots given t x) kept ≡ reported (answer_talk s u slots given t x) (entries_talk s u slots t x)
   pub window : reported (answer_talk s u slots given t x) w' ≡ reported (answer_talk s u slots given t x) (in_window w x.found.entries (entries_talk s u slots t x))

@@ -1,7 +1,7 @@
 #![tactic(auto)]
 // Both handshakes: turns on two streams, each from where the last turn on that stream ended. All turns are judged in their order, without a write to lent memory but for
-// the numbers, and only then are the entries filled in, as numbers or as bytes: the other room is lent empty. A turn's fields are read one by one and not by the table:
-// a handshake is short, and to go through the table would take most of its time. A version is one number, 256 * major + minor.
+// the numbers, and only then are the entries filled in, as numbers or as bytes. A turn's fields are read one by one and not by the table: a handshake is short, and to go
+// through the table would take most of its time. A version is one number, 256 * major + minor.
 ghost use Rattle.std.specs.Prelude.{◌≡◌, List, [], ℕ, ◌-◌, ◌/◌, ◌<◌, ◌≤◌, leb, length, set};
 ghost use Rattle.std.proofs.lemmas.List.Edits.{sets};
 ghost use Rattle.layouts.specs.declared.Record.{Record};
@@ -18,9 +18,9 @@ ghost use Rattle.handshake.specs.Turns.{hello_to, JudgesFeatures, Passed, trust_
 ghost use Rattle.handshake.specs.Greeted.{kept_by, GreetsBoth, GreetsAlone, both_filled, alone_filled, both_read, alone_read};
 
 use layouts::Refusal;
-use numbers::Number;
 use walk_items::Layout;
 use walk_judge::{Answer, Said};
+use walk_rooms::Room;
 use walk_take::Series;
 
 const WORKER_MAGIC_1: u64 = 0x6e697863;
@@ -48,53 +48,40 @@ const DAEMON: u64 = 1;
 // Where a hello ends.
 const HELLO_END: usize = 16;
 
-#[derive(Drop)]
-enum Hello {
-    Said { magic: u64, wire: u64 },
-    Refused(Refusal),
+#[derive(Clone, Copy)]
+struct Hello {
+    magic: u64,
+    wire: u64,
 }
 
 // Where features end, the entries then, and how many features there are.
-#[derive(Drop)]
-enum Features {
-    Past {
-        at: usize,
-        entries: usize,
-        count: u64,
-    },
-    Refused(Refusal),
-}
-
-// Where numbers end that are passed over.
-#[derive(Drop)]
-enum Place {
-    Past(usize),
-    Refused(Refusal),
+#[derive(Clone, Copy)]
+struct Features {
+    at: usize,
+    entries: usize,
+    count: u64,
 }
 
 // 0 where the daemon does not say whether it trusts the client.
-#[derive(Drop)]
-enum Trust {
-    Past { at: usize, trust: u64 },
-    Refused(Refusal),
+#[derive(Clone, Copy)]
+struct Trust {
+    at: usize,
+    trust: u64,
 }
 
 // Where the daemon's last turn ends, the entries then, and its numbers.
-#[derive(Drop)]
-enum Info {
-    Past {
-        at: usize,
-        entries: usize,
-        trust: u64,
-        last: u64,
-    },
-    Refused(Refusal),
+#[derive(Clone, Copy)]
+struct Info {
+    at: usize,
+    entries: usize,
+    trust: u64,
+    last: u64,
 }
 
 // What is said, and for the one who fills: the layouts of the turns that keep strings, and where the last of them begins.
 #[derive(Drop)]
 struct Greeted {
-    said: Said,
+    said: Result<Said, Refusal>,
     offers: Layout,
     features: Layout,
     info: Layout,
@@ -102,20 +89,12 @@ struct Greeted {
 }
 
 // Magic and version.
-fn judge_hello(s: &[u8]) -> Hello
+fn judge_hello(s: &[u8]) -> Result<Hello, Refusal>
     ensures { (slots : ℕ) (x : Record) (i j : ℕ) → judge_of s.now slots 0 x (run (hello i j) s.now 0) ≡ hello_to x i j result }
 {
-    let m = pieces::number_at(s, 0);
-    match m {
-        Number::Short => Hello::Refused(layouts::refuse(layouts::CUT_SHORT, 0)),
-        Number::Value(magic) => {
-            let w = pieces::number_at(s, 8);
-            match w {
-                Number::Short => Hello::Refused(layouts::refuse(layouts::CUT_SHORT, 8)),
-                Number::Value(wire) => Hello::Said { magic, wire },
-            }
-        }
-    }
+    let magic = pieces::number_or_cut(s, 0)?;
+    let wire = pieces::number_or_cut(s, 8)?;
+    Ok(Hello { magic, wire })
 }
 
 // The features of one side, with n entries before them.
@@ -126,77 +105,56 @@ fn judge_features(
     slots: usize,
     n: usize,
     window: &mut [u64; 16],
-) -> Features
+) -> Result<Features, Refusal>
     ensures { JudgesFeatures s.now slots at v n window.old window.new result }
 {
     if v < HAS_FEATURES {
-        return Features::Past {
+        return Ok(Features {
             at,
             entries: n,
             count: 0,
-        };
+        });
     }
-    let m = pieces::number_at(s, at);
-    match m {
-        Number::Short => Features::Refused(layouts::refuse(layouts::CUT_SHORT, at)),
-        Number::Value(count) => {
-            let k = walk_take::judge_series(s, at + 8, table::KEPT, 0, 0, count, slots, n, window);
-            match k {
-                Series::Refused(r) => Features::Refused(r),
-                Series::Past { at: next, entries } => Features::Past {
-                    at: next,
-                    entries,
-                    count,
-                },
-            }
-        }
-    }
+    let count = pieces::number_or_cut(s, at)?;
+    let k = walk_take::judge_series(s, at + 8, table::KEPT, 0, 0, count, slots, n, window)?;
+    Ok(Features {
+        at: k.at,
+        entries: k.entries,
+        count,
+    })
 }
 
 // A number that is dropped.
-fn pass_number(s: &[u8], at: usize) -> Place
+fn pass_number(s: &[u8], at: usize) -> Result<usize, Refusal>
     ensures { Passed s.now at (λ k. ask dropped (λ v. k tt)) result }
 {
-    let m = pieces::number_at(s, at);
-    match m {
-        Number::Short => Place::Refused(layouts::refuse(layouts::CUT_SHORT, at)),
-        Number::Value(_) => Place::Past(at + 8),
-    }
+    pieces::number_or_cut(s, at)?;
+    Ok(at + 8)
 }
 
 // Whether an affinity is set, and if so a number that says it.
-fn pass_affinity(s: &[u8], at: usize, v: u64) -> Place
+fn pass_affinity(s: &[u8], at: usize, v: u64) -> Result<usize, Refusal>
     ensures { Passed s.now at (gated (leb 270 v) maybe) result }
 {
     if v < HAS_AFFINITY {
-        return Place::Past(at);
+        return Ok(at);
     }
-    let m = pieces::number_at(s, at);
-    match m {
-        Number::Short => Place::Refused(layouts::refuse(layouts::CUT_SHORT, at)),
-        Number::Value(x) => {
-            if x == 0 {
-                return Place::Past(at + 8);
-            }
-            pass_number(s, at + 8)
-        }
+    let x = pieces::number_or_cut(s, at)?;
+    if x == 0 {
+        return Ok(at + 8);
     }
+    pass_number(s, at + 8)
 }
 
 // The numbers of the client that mean nothing any more.
-fn pass_obsolete(s: &[u8], at: usize, v: u64) -> Place
+fn pass_obsolete(s: &[u8], at: usize, v: u64) -> Result<usize, Refusal>
     ensures { Passed s.now at (λ k. gated (leb 270 v) maybe (λ u. gated (leb 267 v) (num dropped) k)) result }
 {
-    let a = pass_affinity(s, at, v);
-    match a {
-        Place::Refused(r) => Place::Refused(r),
-        Place::Past(next) => {
-            if v < RESERVES_SPACE {
-                return Place::Past(next);
-            }
-            pass_number(s, next)
-        }
+    let next = pass_affinity(s, at, v)?;
+    if v < RESERVES_SPACE {
+        return Ok(next);
     }
+    pass_number(s, next)
 }
 
 // The daemon's version string.
@@ -207,76 +165,39 @@ fn judge_version(
     slots: usize,
     n: usize,
     window: &mut [u64; 16],
-) -> Series
+) -> Result<Series, Refusal>
     ensures { Takes s.now slots at (gated (leb 289 v) (str kept)) window.old n window.new result }
 {
     if v < SAYS_VERSION {
-        return Series::Past { at, entries: n };
+        return Ok(Series { at, entries: n });
     }
     walk_take::judge_text(s, at, table::KEPT, slots, n, window)
 }
 
-fn judge_trust(s: &[u8], at: usize, v: u64) -> Trust
+fn judge_trust(s: &[u8], at: usize, v: u64) -> Result<Trust, Refusal>
     ensures { (slots : ℕ) (k : Unit {0} → Tree) (x : Record) → set x.numbers 4 0 ≡ x.numbers
         → judge_of s.now slots 0 x (run (gated (leb 291 v) (num (as_number 4)) k) s.now at) ≡ trust_to s.now slots x k result }
 {
     if v < SAYS_TRUST {
-        return Trust::Past { at, trust: 0 };
+        return Ok(Trust { at, trust: 0 });
     }
-    let m = pieces::number_at(s, at);
-    match m {
-        Number::Short => Trust::Refused(layouts::refuse(layouts::CUT_SHORT, at)),
-        Number::Value(trust) => Trust::Past { at: at + 8, trust },
-    }
+    let trust = pieces::number_or_cut(s, at)?;
+    Ok(Trust { at: at + 8, trust })
 }
 
 // What the daemon says last, after its version string, which was judged so. With `judge_version` in it this function would stay out of line in both callers.
-fn judge_info(t: Series, s: &[u8], v: u64) -> Info
+fn judge_info(t: Result<Series, Refusal>, s: &[u8], v: u64) -> Result<Info, Refusal>
     ensures { (slots at n : ℕ) (w w' : List ℕ) → Takes s.now slots at (gated (leb 289 v) (str kept)) w n w' t → JudgesInfo s.now slots at v n w w' result }
 {
-    match t {
-        Series::Refused(r) => Info::Refused(r),
-        Series::Past { at: after, entries } => {
-            let h = judge_trust(s, after, v);
-            match h {
-                Trust::Refused(r) => Info::Refused(r),
-                Trust::Past { at: next, trust } => {
-                    let m = pieces::number_at(s, next);
-                    match m {
-                        Number::Short => {
-                            Info::Refused(layouts::refuse(layouts::CUT_SHORT, next))
-                        }
-                        Number::Value(last) => Info::Past {
-                            at: next + 8,
-                            entries,
-                            trust,
-                            last,
-                        },
-                    }
-                }
-            }
-        }
-    }
-}
-
-// The place of the number that ends there.
-fn place_before(end: usize) -> usize
-    ensures { result ≡ end - 8 }
-{
-    if end < 8 {
-        return 0;
-    }
-    end - 8
-}
-
-fn smaller(v: u64, w: u64) -> u64
-    ensures value { result ≡ pick (leb w v) w v }
-    ensures upper_bound { result ≤ w }
-{
-    if w <= v {
-        return w;
-    }
-    v
+    let told = t?;
+    let h = judge_trust(s, told.at, v)?;
+    let last = pieces::number_or_cut(s, h.at)?;
+    Ok(Info {
+        at: h.at + 8,
+        entries: told.entries,
+        trust: h.trust,
+        last,
+    })
 }
 
 fn bit(b: bool) -> u64
@@ -292,7 +213,7 @@ fn bit(b: bool) -> u64
 fn versions(c: u64, d: u64, trust: u64) -> [u64; 12]
     ensures { result ≡ versions (version_in c) (version_in d) trust }
 {
-    let v = smaller(c, d);
+    let v = c.min(d);
     let has_version = bit(SAYS_VERSION <= v);
     let has_trust = bit(SAYS_TRUST <= v);
     [
@@ -312,7 +233,12 @@ fn versions(c: u64, d: u64, trust: u64) -> [u64; 12]
 }
 
 // A refusal, which names its stream.
-fn refuse_on(r: Refusal, stream: u64, numbers: &mut [u64; 12], counts: &mut [u64; 3]) -> Said
+fn refuse_on(
+    r: Refusal,
+    stream: u64,
+    numbers: &mut [u64; 12],
+    counts: &mut [u64; 3],
+) -> Result<Said, Refusal>
     ensures { answer_of result numbers.new counts.new ≡ answer_as (refused r.which r.place stream) }
 {
     walk_judge::refuse(
@@ -341,7 +267,7 @@ fn stop(r: Refusal, stream: u64, numbers: &mut [u64; 12], counts: &mut [u64; 3])
 
 // What is answered after the daemon's last turn, where c and d are the versions, and the client's stream ends at a place. The last number has to be Last.
 fn tell(
-    i: Info,
+    i: Result<Info, Refusal>,
     c: u64,
     d: u64,
     offered: u64,
@@ -349,31 +275,26 @@ fn tell(
     ends: usize,
     numbers: &mut [u64; 12],
     counts: &mut [u64; 3],
-) -> Said
+) -> Result<Said, Refusal>
     ensures { answer_of result numbers.new counts.new ≡ answer_as (told_of (version_in c) (version_in d) offered featured ends i) }
 {
     match i {
-        Info::Refused(r) => refuse_on(r, DAEMON, numbers, counts),
-        Info::Past {
-            at: ends2,
-            entries,
-            trust,
-            last,
-        } => {
-            if last == STDERR_LAST {
-                *numbers = versions(c, d, trust);
+        Err(r) => refuse_on(r, DAEMON, numbers, counts),
+        Ok(k) => {
+            if k.last == STDERR_LAST {
+                *numbers = versions(c, d, k.trust);
                 *counts = [offered, featured, 0];
-                return Said::Fine {
+                return Ok(Said {
                     kind: 0,
                     ends,
-                    ends2,
-                    entries,
+                    ends2: k.at,
+                    entries: k.entries,
                     payload: 0,
                     present: false,
-                };
+                });
             }
             refuse_on(
-                layouts::refuse(layouts::NOT_LAST, place_before(ends2)),
+                layouts::refuse(layouts::NOT_LAST, k.at.saturating_sub(8)),
                 DAEMON,
                 numbers,
                 counts,
@@ -398,44 +319,30 @@ fn greet(
         → GreetsBoth (greeting (smaller (from_wire w1) (from_wire w2))) (met_at m1 w1 m2 w2 0 0 0 16 16) client.now daemon.now slots window.old
         result numbers.new counts.new window.new }
 {
-    let v = smaller(c, d);
-    let f = judge_features(client, HELLO_END, v, slots, 0, window);
-    match f {
-        Features::Refused(r) => stop(r, CLIENT, numbers, counts),
-        Features::Past {
-            at: offered_to,
-            entries: n,
-            count: offered,
-        } => {
-            let g = judge_features(daemon, HELLO_END, v, slots, n, window);
-            match g {
-                Features::Refused(r) => stop(r, DAEMON, numbers, counts),
-                Features::Past {
-                    at: info_at,
-                    entries: m,
-                    count: featured,
-                } => {
-                    let o = pass_obsolete(client, offered_to, v);
-                    match o {
-                        Place::Refused(r) => stop(r, CLIENT, numbers, counts),
-                        Place::Past(ends) => {
-                            let t = judge_version(daemon, info_at, v, slots, m, window);
-                            let i = judge_info(t, daemon, v);
-                            let said = tell(i, c, d, offered, featured, ends, numbers, counts);
-                            let major = (v / 256) as u16;
-                            let minor = (v % 256) as u8;
-                            Greeted {
-                                said,
-                                offers: walk_items::layout(major, minor, table::FEATURES_CLIENT),
-                                features: walk_items::layout(major, minor, table::FEATURES_DAEMON),
-                                info: walk_items::layout(major, minor, table::INFO),
-                                info_at,
-                            }
-                        }
-                    }
-                }
-            }
-        }
+    let v = c.min(d);
+    let f = match judge_features(client, HELLO_END, v, slots, 0, window) {
+        Err(r) => return stop(r, CLIENT, numbers, counts),
+        Ok(offers) => offers,
+    };
+    let g = match judge_features(daemon, HELLO_END, v, slots, f.entries, window) {
+        Err(r) => return stop(r, DAEMON, numbers, counts),
+        Ok(features) => features,
+    };
+    let ends = match pass_obsolete(client, f.at, v) {
+        Err(r) => return stop(r, CLIENT, numbers, counts),
+        Ok(place) => place,
+    };
+    let t = judge_version(daemon, g.at, v, slots, g.entries, window);
+    let i = judge_info(t, daemon, v);
+    let said = tell(i, c, d, f.count, g.count, ends, numbers, counts);
+    let major = (v / 256) as u16;
+    let minor = (v % 256) as u8;
+    Greeted {
+        said,
+        offers: walk_items::layout(major, minor, table::FEATURES_CLIENT),
+        features: walk_items::layout(major, minor, table::FEATURES_DAEMON),
+        info: walk_items::layout(major, minor, table::INFO),
+        info_at: g.at,
     }
 }
 
@@ -450,47 +357,40 @@ fn judge_handshake(
 ) -> Greeted
     ensures { GreetsBoth handshake start client.now daemon.now slots window.old result numbers.new counts.new window.new }
 {
-    let a = judge_hello(client);
-    match a {
-        Hello::Refused(r) => stop(r, CLIENT, numbers, counts),
-        Hello::Said { magic: asks, wire } => {
-            let b = judge_hello(daemon);
-            match b {
-                Hello::Refused(r) => stop(r, DAEMON, numbers, counts),
-                Hello::Said {
-                    magic: tells,
-                    wire: other,
-                } => {
-                    if asks != WORKER_MAGIC_1 {
-                        return stop(
-                            layouts::refuse(layouts::CLIENT_MAGIC_WRONG, 0),
-                            CLIENT,
-                            numbers,
-                            counts,
-                        );
-                    }
-                    if tells != WORKER_MAGIC_2 {
-                        return stop(
-                            layouts::refuse(layouts::DAEMON_MAGIC_WRONG, 0),
-                            DAEMON,
-                            numbers,
-                            counts,
-                        );
-                    }
-                    greet(
-                        client,
-                        daemon,
-                        wire % 65536,
-                        other % 65536,
-                        slots,
-                        window,
-                        numbers,
-                        counts,
-                    )
-                }
-            }
-        }
+    let a = match judge_hello(client) {
+        Err(r) => return stop(r, CLIENT, numbers, counts),
+        Ok(asks) => asks,
+    };
+    let b = match judge_hello(daemon) {
+        Err(r) => return stop(r, DAEMON, numbers, counts),
+        Ok(tells) => tells,
+    };
+    if a.magic != WORKER_MAGIC_1 {
+        return stop(
+            layouts::refuse(layouts::CLIENT_MAGIC_WRONG, 0),
+            CLIENT,
+            numbers,
+            counts,
+        );
     }
+    if b.magic != WORKER_MAGIC_2 {
+        return stop(
+            layouts::refuse(layouts::DAEMON_MAGIC_WRONG, 0),
+            DAEMON,
+            numbers,
+            counts,
+        );
+    }
+    greet(
+        client,
+        daemon,
+        a.wire % 65536,
+        b.wire % 65536,
+        slots,
+        window,
+        numbers,
+        counts,
+    )
 }
 
 // What follows the daemon's magic, against a client of version c.
@@ -508,28 +408,22 @@ fn greet_alone(
         → GreetsAlone (version_in c) (daemon_greeting (smaller (version_in c) (from_wire w2))) (met_at 0 0 m2 w2 0 0 0 0 16) daemon.now slots window.old
         result numbers.new counts.new window.new }
 {
-    let v = smaller(c, d);
-    let g = judge_features(daemon, HELLO_END, v, slots, 0, window);
-    match g {
-        Features::Refused(r) => stop(r, DAEMON, numbers, counts),
-        Features::Past {
-            at: info_at,
-            entries: m,
-            count: featured,
-        } => {
-            let t = judge_version(daemon, info_at, v, slots, m, window);
-            let i = judge_info(t, daemon, v);
-            let said = tell(i, c, d, 0, featured, 0, numbers, counts);
-            let major = (v / 256) as u16;
-            let minor = (v % 256) as u8;
-            Greeted {
-                said,
-                offers: walk_items::layout(major, minor, table::NOTHING),
-                features: walk_items::layout(major, minor, table::FEATURES_DAEMON),
-                info: walk_items::layout(major, minor, table::INFO),
-                info_at,
-            }
-        }
+    let v = c.min(d);
+    let g = match judge_features(daemon, HELLO_END, v, slots, 0, window) {
+        Err(r) => return stop(r, DAEMON, numbers, counts),
+        Ok(features) => features,
+    };
+    let t = judge_version(daemon, g.at, v, slots, g.entries, window);
+    let i = judge_info(t, daemon, v);
+    let said = tell(i, c, d, 0, g.count, 0, numbers, counts);
+    let major = (v / 256) as u16;
+    let minor = (v % 256) as u8;
+    Greeted {
+        said,
+        offers: walk_items::layout(major, minor, table::NOTHING),
+        features: walk_items::layout(major, minor, table::FEATURES_DAEMON),
+        info: walk_items::layout(major, minor, table::INFO),
+        info_at: g.at,
     }
 }
 
@@ -546,107 +440,78 @@ fn judge_daemon_handshake(
     ensures { GreetsAlone (version major minor) (daemon_handshake (version major minor)) start daemon.now slots window.old
         result numbers.new counts.new window.new }
 {
-    let b = judge_hello(daemon);
-    match b {
-        Hello::Refused(r) => stop(r, DAEMON, numbers, counts),
-        Hello::Said { magic, wire } => {
-            if magic != WORKER_MAGIC_2 {
-                return stop(
-                    layouts::refuse(layouts::DAEMON_MAGIC_WRONG, 0),
-                    DAEMON,
-                    numbers,
-                    counts,
-                );
-            }
-            let c = 256 * major as u64 + minor as u64;
-            greet_alone(daemon, c, wire % 65536, slots, window, numbers, counts)
-        }
+    let b = match judge_hello(daemon) {
+        Err(r) => return stop(r, DAEMON, numbers, counts),
+        Ok(tells) => tells,
+    };
+    if b.magic != WORKER_MAGIC_2 {
+        return stop(
+            layouts::refuse(layouts::DAEMON_MAGIC_WRONG, 0),
+            DAEMON,
+            numbers,
+            counts,
+        );
     }
+    let c = 256 * major as u64 + minor as u64;
+    greet_alone(daemon, c, b.wire % 65536, slots, window, numbers, counts)
 }
 
 // The turns that keep strings, one after the other: the client's features, the daemon's, and its version string.
-fn fill_turns(client: &[u8], daemon: &[u8], g: Greeted, words: &mut [u64], bytes: &mut [u8])
-    ensures words { words.new ≡ sets words.old 0 (kept_by g client.now daemon.now) }
-    ensures bytes { bytes.new ≡ sets bytes.old 0 (bytes_of (kept_by g client.now daemon.now)) }
+fn fill_turns<T: Room>(client: &[u8], daemon: &[u8], g: Greeted, entries: &mut [T])
+    ensures { entries.new ≡ sets entries.old 0 (T.laid (kept_by g client.now daemon.now)) }
 {
-    let n = walk_fill::fill_entries(client, HELLO_END, g.offers, words, 0, bytes, 0);
-    let m = walk_fill::fill_entries(
-        daemon, HELLO_END, g.features, words, n.words, bytes, n.bytes,
-    );
-    walk_fill::fill_entries(daemon, g.info_at, g.info, words, m.words, bytes, m.bytes);
+    let n = walk_fill::fill_entries(client, HELLO_END, g.offers, entries, 0);
+    let m = walk_fill::fill_entries(daemon, HELLO_END, g.features, entries, n);
+    walk_fill::fill_entries(daemon, g.info_at, g.info, entries, m);
 }
 
 // Both streams, each from its start. What the window has is not gone through again. `read_alone` ends in the same lines: as one function they would stay out of line.
-fn read(
+fn read<T: Room>(
     client: &[u8],
     daemon: &[u8],
-    words: &mut [u64],
-    bytes: &mut [u8],
+    entries: &mut [T],
     numbers: &mut [u64; 12],
     counts: &mut [u64; 3],
-) -> Said
-    ensures answer { answer_of result numbers.new counts.new ≡ (both_filled client.now daemon.now words.old bytes.old).answer }
-    ensures words { words.new ≡ (both_filled client.now daemon.now words.old bytes.old).words }
-    ensures bytes { bytes.new ≡ (both_filled client.now daemon.now words.old bytes.old).bytes }
+) -> Result<Said, Refusal>
+    ensures answer { answer_of result numbers.new counts.new
+        ≡ (both_filled client.now daemon.now (T.slots entries.old) T.laid entries.old).answer }
+    ensures entries { entries.new ≡ (both_filled client.now daemon.now (T.slots entries.old) T.laid entries.old).entries }
 {
     let mut window = [0u64; 16];
-    let slots = entries::slots(words, bytes);
+    let slots = T::slots(entries);
     let g = judge_handshake(client, daemon, slots, &mut window, numbers, counts);
-    let said = g.said;
-    let Said::Fine {
-        kind: _,
-        ends: _,
-        ends2: _,
-        entries,
-        payload: _,
-        present: _,
-    } = said
-    else {
-        return said;
-    };
-    if walk_take::WINDOW < entries {
-        fill_turns(client, daemon, g, words, bytes);
-        return said;
+    let said = g.said?;
+    if walk_take::WINDOW < said.entries {
+        fill_turns(client, daemon, g, entries);
+        return Ok(said);
     }
-    walk_rooms::put_window(&window, entries, words, bytes);
-    said
+    walk_rooms::put_window(&window, said.entries, entries);
+    Ok(said)
 }
 
 // The daemon's side alone. Of the client no stream is read: any is lent in its place.
-fn read_alone(
+fn read_alone<T: Room>(
     major: u16,
     minor: u8,
     daemon: &[u8],
-    words: &mut [u64],
-    bytes: &mut [u8],
+    entries: &mut [T],
     numbers: &mut [u64; 12],
     counts: &mut [u64; 3],
-) -> Said
-    ensures answer { answer_of result numbers.new counts.new ≡ (alone_filled (version major minor) daemon.now words.old bytes.old).answer }
-    ensures words { words.new ≡ (alone_filled (version major minor) daemon.now words.old bytes.old).words }
-    ensures bytes { bytes.new ≡ (alone_filled (version major minor) daemon.now words.old bytes.old).bytes }
+) -> Result<Said, Refusal>
+    ensures answer { answer_of result numbers.new counts.new
+        ≡ (alone_filled (version major minor) daemon.now (T.slots entries.old) T.laid entries.old).answer }
+    ensures entries { entries.new ≡ (alone_filled (version major minor) daemon.now (T.slots entries.old) T.laid entries.old).entries }
 {
     let mut window = [0u64; 16];
-    let slots = entries::slots(words, bytes);
+    let slots = T::slots(entries);
     let g = judge_daemon_handshake(major, minor, daemon, slots, &mut window, numbers, counts);
-    let said = g.said;
-    let Said::Fine {
-        kind: _,
-        ends: _,
-        ends2: _,
-        entries,
-        payload: _,
-        present: _,
-    } = said
-    else {
-        return said;
-    };
-    if walk_take::WINDOW < entries {
-        fill_turns(daemon, daemon, g, words, bytes);
-        return said;
+    let said = g.said?;
+    if walk_take::WINDOW < said.entries {
+        fill_turns(daemon, daemon, g, entries);
+        return Ok(said);
     }
-    walk_rooms::put_window(&window, entries, words, bytes);
-    said
+    walk_rooms::put_window(&window, said.entries, entries);
+    Ok(said)
 }
 
 // Both streams, each from its start.
@@ -654,17 +519,9 @@ pub fn parse_handshake(client: &[u8], daemon: &[u8], entries: &mut [u64]) -> Ans
     ensures answer { result ≡ (both_read client.now daemon.now (length entries.old / 2) (λ x. x) entries.old).answer }
     ensures entries { entries.new ≡ (both_read client.now daemon.now (length entries.old / 2) (λ x. x) entries.old).entries }
 {
-    let mut none: [u8; 0] = [];
     let mut numbers = [0u64; 12];
     let mut counts = [0u64; 3];
-    let said = read(
-        client,
-        daemon,
-        entries,
-        &mut none,
-        &mut numbers,
-        &mut counts,
-    );
+    let said = read(client, daemon, entries, &mut numbers, &mut counts);
     walk_judge::answer_of(said, numbers, counts)
 }
 
@@ -675,13 +532,12 @@ pub fn parse_handshake_bytes(
     entries: &mut [u8],
     numbers: &mut [u64; 12],
     counts: &mut [u64; 3],
-) -> Said
+) -> Result<Said, Refusal>
     ensures answer { answer_of result numbers.new counts.new
         ≡ (both_read client.now daemon.now (length entries.old / 16) bytes_of entries.old).answer }
     ensures entries { entries.new ≡ (both_read client.now daemon.now (length entries.old / 16) bytes_of entries.old).entries }
 {
-    let mut none: [u64; 0] = [];
-    read(client, daemon, &mut none, entries, numbers, counts)
+    read(client, daemon, entries, numbers, counts)
 }
 
 // The daemon's side alone, against a given client version.
@@ -689,18 +545,9 @@ pub fn parse_daemon_handshake(major: u16, minor: u8, daemon: &[u8], entries: &mu
     ensures answer { result ≡ (alone_read (version major minor) daemon.now (length entries.old / 2) (λ x. x) entries.old).answer }
     ensures entries { entries.new ≡ (alone_read (version major minor) daemon.now (length entries.old / 2) (λ x. x) entries.old).entries }
 {
-    let mut none: [u8; 0] = [];
     let mut numbers = [0u64; 12];
     let mut counts = [0u64; 3];
-    let said = read_alone(
-        major,
-        minor,
-        daemon,
-        entries,
-        &mut none,
-        &mut numbers,
-        &mut counts,
-    );
+    let said = read_alone(major, minor, daemon, entries, &mut numbers, &mut counts);
     walk_judge::answer_of(said, numbers, counts)
 }
 
@@ -712,11 +559,10 @@ pub fn parse_daemon_handshake_bytes(
     entries: &mut [u8],
     numbers: &mut [u64; 12],
     counts: &mut [u64; 3],
-) -> Said
+) -> Result<Said, Refusal>
     ensures answer { answer_of result numbers.new counts.new
         ≡ (alone_read (version major minor) daemon.now (length entries.old / 16) bytes_of entries.old).answer }
     ensures entries { entries.new ≡ (alone_read (version major minor) daemon.now (length entries.old / 16) bytes_of entries.old).entries }
 {
-    let mut none: [u64; 0] = [];
-    read_alone(major, minor, daemon, &mut none, entries, numbers, counts)
+    read_alone(major, minor, daemon, entries, numbers, counts)
 }

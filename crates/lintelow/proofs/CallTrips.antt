@@ -22,14 +22,11 @@ use Rattle.layouts_calls.specs.CallTrips.{Fifteen, call_strings, call_pieces, Re
 use Rattle.layouts_calls.specs.CallOurs.{Ours}
 use Rattle.layouts_calls.proofs.CallTrips.{call_told, written_strings, strings_are, written_read}
 use Rattle.layouts_calls.proofs.CallOurs.{read_written, read_within, read_written_fits}
-use Rattle.walk_judge.specs.declared.Outcome.TheVariants.{Fine}
 use Rattle.walk_judge.specs.declared.Answer as C
 use Rattle.walk_judge.specs.Judged.{answer_as}
 use Rattle.walk_judge.proofs.Answers.{answer_fine}
 use Rattle.protocol.proofs.Demands.{totalled}
 use Rattle.writers_output.specs.Answer.{meaning}
-use Rattle.writers_output.specs.declared.Written.{Written}
-use Rattle.writers_output.specs.declared.Written.TheVariants.{Length}
 use Rattle.writers_calls.specs.Calls.{bytes_or, fifteen, call_written}
 use Rattle.writers_calls.proofs.write_op_args.Reads as write-op-args
 use Rattle.writers_calls.proofs.write_op_args.Kinds as write-op-args-kinds
@@ -38,6 +35,9 @@ use Rattle.protocol.proofs.read_op_args.Kinds as read-op-args-kinds
 use Rattle.lintelow.specs.RoundTrips.{Has, OutputAnswered}
 use Rattle.lintelow.specs.CallTrips.{FewAndShort, SameCall}
 use Rattle.lintelow.proofs.RoundTrips.{length_is}
+use Rattle.std.specs.Prelude as Std
+use Rattle.layouts.specs.declared.Refusal.{Refusal}
+use Rattle.std.specs.Prelude.{Ok}
 
 -- ---- there: the strings that a call was written with, and how a stream that begins with it reads
 pub record CallTrip (call : Context) (ns bytes es p s : List ℕ) (slots room n : ℕ) : Type 0 where
@@ -103,7 +103,7 @@ pub reported_is : (n : ℕ) (new rest room : List ℕ) → room ≡ new ++ rest 
 reported_is n new rest room e l = ap (take n) e ∙ take_at new rest n l
 
 -- ---- a call of `write_op_args`, and one of `read_op_args`, of the same operation at the same version in the same mode
-module _ (κs : Lfts 4) (a : Dens κs write-op-args-kinds.ps) (w : Written) (x : AtExit (ended_of 4 write-op-args-kinds.ps write-op-args-kinds.r) κs) (p : write-op-args.Post κs a w x)
+module _ (κs : Lfts 4) (a : Dens κs write-op-args-kinds.ps) (w : Std.Result ℕ Refusal) (x : AtExit (ended_of 4 write-op-args-kinds.ps write-op-args-kinds.r) κs) (p : write-op-args.Post κs a w x)
     (κs' : Lfts 3) (a' : Dens κs' read-op-args-kinds.ps) (r : C.Answer) (x' : AtExit (ended_of 3 read-op-args-kinds.ps read-op-args-kinds.r) κs')
     (q : read-op-args.Post κs' a' r x') where
   abbrev asked : Context
@@ -151,9 +151,9 @@ module _ (κs : Lfts 4) (a : Dens κs write-op-args-kinds.ps) (w : Written) (x :
     -- a call written by us reads back the same:
     -- n bytes were written, and the stream begins with them; with a slot for each string and room for the payload, it reads as a call with a kind, to its end,
     -- and has the numbers, the strings and the payload that were written. Any record has fifteen numbers of eight bytes
-    pub call_read_back : (n : ℕ) → w ≡ Length n → Fifteen (fifteen given) → FewAndShort asked (fifteen given) bytes_given entries_given (length slots / 2)
+    pub call_read_back : (n : ℕ) → w ≡ Ok n → Fifteen (fifteen given) → FewAndShort asked (fifteen given) bytes_given entries_given (length slots / 2)
         → length payload_given ≤ length room → Has stream 0 n output
-        → (r.outcome ≡ Fine) × (0 < r.kind) × (r.ends ≡ n)
+        → (r.outcome ≡ Ok tt) × (0 < r.kind) × (r.ends ≡ n)
         × SameCall asked (fifteen given) bytes_given entries_given payload_given (fifteen r.found) stream entries_read r.found.entries (take r.found.payload payload_read)
     unfolding call_written write_op_args
     call_read_back n wrote small few fits has =
@@ -176,7 +176,7 @@ module _ (κs : Lfts 4) (a : Dens κs write-op-args-kinds.ps) (w : Written) (x :
     -- a call that reads, written again, gives the same bytes:
     -- it was read as a call with a kind, and is as we write calls; its own record, stream, entries and payload are written with room, and the output begins
     -- with the call's own bytes
-    pub call_written_again : r.outcome ≡ Fine → 0 < r.kind → Bytes stream → Ours stream (call_pieces asked stream)
+    pub call_written_again : r.outcome ≡ (Ok tt) → 0 < r.kind → Bytes stream → Ours stream (call_pieces asked stream)
         → given ≡ r.found → bytes_given ≡ stream → entries_given ≡ entries_read → payload_given ≡ take r.found.payload payload_read → r.ends ≤ length lent
         → OutputAnswered w output stream 0 r.ends
     unfolding call_written write_op_args read_op_args

@@ -22,14 +22,15 @@ use Rattle.layouts.proofs.Success.{Numbered, skip_reply_numbered}
 use Rattle.entries.specs.Entries.{numbers_from, entries_in}
 use Rattle.writers_output.specs.Numbers.{bytes_of}
 use Rattle.writers_output.proofs.Numbers.{bytes_length}
-use Rattle.walk_judge.specs.declared.Outcome.{Outcome}
-use Rattle.walk_judge.specs.declared.Outcome.TheVariants.{Fine}
 use Rattle.walk_judge.specs.declared.Answer.{Answer}
 use Rattle.walk_judge.specs.Judged.{answer_as}
 use Rattle.walk_judge.proofs.Answers.{beyond}
 use Rattle.lintelow_answers.specs.Skips.{result_skipped}
 use Rattle.lintelow_answers.specs.Block.{refusal_of, numbers_of, guarded, number_of, number_put, block_put}
 use Rattle.lintelow.specs.Demands.{end_told, entries_told, payload_told, Lendable, Tells}
+use Rattle.std.specs.Prelude as Std
+use Rattle.layouts.specs.declared.Refusal.{Refusal}
+use Rattle.std.specs.Prelude.{Ok}
 
 -- ---- the numbers of a block
 number_after : (n : ℕ) (l : List ℕ) (k : ℕ) → number_at (number_bytes n ++ l) (8 + k) ≡ number_at l k
@@ -48,19 +49,19 @@ number_of_lem (suc i) (n ∷ ns) l h g =
     ∙ ap (number_at m) (omega arith) ∙ number_after n (bytes_of ns ++ l) (8 * i) ∙ number_of_lem i ns l (omega arith) g
 
 -- those of an answer that is fine
-module _ (a : Answer) (fine : a.outcome ≡ Fine) where
+module _ (a : Answer) (fine : a.outcome ≡ Ok tt) where
   abbrev told : List ℕ
   told = 0 ∷ 0 ∷ 0 ∷ a.kind ∷ a.ends ∷ a.ends2 ∷ a.found.entries ∷ a.found.payload ∷ (a.found.numbers ++ (a.found.counts ++ (0 ∷ 0 ∷ [])))
 
   told_by_lem : numbers_of a ≡ told
   told_by_lem =
-      ap (λ (u : Outcome). refusal_of u ++ (a.kind ∷ a.ends ∷ a.ends2 ∷ a.found.entries ∷ a.found.payload ∷ (a.found.numbers ++ (a.found.counts ++ (0 ∷ 0 ∷ []))))) fine
+      ap (λ (u : Std.Result (Unit {0}) Refusal). refusal_of u ++ (a.kind ∷ a.ends ∷ a.ends2 ∷ a.found.entries ∷ a.found.payload ∷ (a.found.numbers ++ (a.found.counts ++ (0 ∷ 0 ∷ []))))) fine
 
   told_at : (i : ℕ) (l : List ℕ) → i < 8 → get_or told i 0 < 18446744073709551616 → number_at (bytes_of (numbers_of a) ++ l) (8 * i) ≡ get_or told i 0
   told_at i l h g = ap (λ (ns : List ℕ). number_at (bytes_of ns ++ l) (8 * i)) told_by_lem ∙ number_of_lem i told l (omega arith) g
 
 -- ---- demand 1 of a call that is lent a room: judged as o, of which f makes the answer, it reports new
-module _ {A : Type 0} (f : Result A → Answer) (fine : (y : A) → (f (ok y)).outcome ≡ Fine) (block new lent out : List ℕ) where
+module _ {A : Type 0} (f : Result A → Answer) (fine : (y : A) → (f (ok y)).outcome ≡ Ok tt) (block new lent out : List ℕ) where
   keeps_by : (b : Bool) (o : Result A) (number : ℕ) → number ≡ pick b (get_or (numbers_of (f o)) 0 0) output_full → out ≡ lent_after (pick b o (refused output_full 0 0)) new lent
       → 0 < number → out ≡ lent
   keeps_by true (ok y) number t e h = let z : get_or (numbers_of (f (ok y))) 0 0 ≡ 0 = ap (λ (ns : List ℕ). get_or ns 0 0) (told_by_lem (f (ok y)) (fine y)) in absurd (omega arith)
@@ -80,7 +81,7 @@ module _ {A : Type 0} (f : Result A → Answer) (fine : (y : A) → (f (ok y)).o
   reports_by true (refused which place stream) after i size h t e c = ap (drop (size (number_at after (8 * i)))) e
   reports_by false o after i size h t e c = ap (drop (size (number_at after (8 * i)))) e
 
-module _ {A : Type 0} (f : Result A → Answer) (fine : (y : A) → (f (ok y)).outcome ≡ Fine) (block : List ℕ) (o : Result A) (number : ℕ) (after : List ℕ)
+module _ {A : Type 0} (f : Result A → Answer) (fine : (y : A) → (f (ok y)).outcome ≡ Ok tt) (block : List ℕ) (o : Result A) (number : ℕ) (after : List ℕ)
     (t : Tells (f o) block number after) (lent out : List ℕ) where
   pub room_kept : (new : List ℕ) → out ≡ lent_after (guarded block o) new lent → 0 < number → out ≡ lent
   unfolding number_put guarded

@@ -2,11 +2,10 @@
 use Rattle.std.specs.Prelude.{ℕ, ◌≤◌, ◌<◌, ◌≡◌, List, length, take, drop}
 use Rattle.layouts.specs.Primitive.{limit, ok}
 use Rattle.layouts.specs.Writers.{view_of, part_of}
-use Rattle.writers_output.specs.declared.Written.{Written}
-use Rattle.writers_output.specs.declared.Written.TheVariants.{Length}
-use Rattle.wire.specs.declared.Spanned.{Spanned}
-use Rattle.wire.specs.declared.Spanned.TheVariants.{Contents}
 use Rattle.lintelow.specs.Demands.{end_told, start_told, length_told}
+use Rattle.wire.specs.declared.Spanned.{Spanned}
+use Rattle.layouts.specs.declared.Refusal.{Refusal}
+use Rattle.std.specs.Prelude.{Ok, Result}
 
 -- the stream has the first n bytes of the output at a place
 abbrev pub Has : List ℕ → (at n : ℕ) → (output : List ℕ) → Type 0
@@ -22,12 +21,12 @@ SameStrings n bytes es bytes' es' = (i : ℕ) → i < n → (c : List ℕ) × (v
 
 -- ---- answers of Rattle's calls
 -- a reader answers these contents, by their place in the stream, and this end
-abbrev pub StringAnswered : Spanned → (s contents : List ℕ) → (ends : ℕ) → Type 0
-StringAnswered r s c e = (start : ℕ) × (len : ℕ) × (r ≡ Contents start len (record { at = e })) × (take len (drop start s) ≡ c)
+abbrev pub StringAnswered : Result Spanned Refusal → (s contents : List ℕ) → (ends : ℕ) → Type 0
+StringAnswered r s c e = (start : ℕ) × (len : ℕ) × (r ≡ Ok (record { start = start; len = len; next = (record { at = e }) })) × (take len (drop start s) ≡ c)
 
 -- a writer answers n, and its output begins with the n bytes that the stream has at a place
-abbrev pub OutputAnswered : Written → (output s : List ℕ) → (at n : ℕ) → Type 0
-OutputAnswered w out s at n = (w ≡ Length n) × Has s at n out
+abbrev pub OutputAnswered : Result ℕ Refusal → (output s : List ℕ) → (at n : ℕ) → Type 0
+OutputAnswered w out s at n = (w ≡ Ok n) × Has s at n out
 
 -- ---- the same of the exported calls: 0 is returned, and the numbers stand in the block
 abbrev pub StringReported : (returned : ℕ) → (block s contents : List ℕ) → (ends : ℕ) → Type 0

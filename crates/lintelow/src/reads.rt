@@ -119,8 +119,7 @@ pub fn lintelow_entry(bytes: &[u8], entries: &[u8], index: usize, block: &mut [u
     ensures number { result ≡ number_of block.old (answer_as (entry_read bytes.now (entries_in entries.now) index)) }
     ensures block { block.new ≡ block_after block.old (answer_as (entry_read bytes.now (entries_in entries.now) index)) }
 {
-    let none: [u64; 0] = [];
-    let r = entries::find(bytes, &none, entries, index);
+    let r = entries::find(bytes, entries, index);
     lintelow_answers::put(block, lintelow_answers::entry(r))
 }
 

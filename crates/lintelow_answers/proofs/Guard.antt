@@ -10,11 +10,12 @@ use Rattle.layouts.specs.Judge.{lent_after}
 use Rattle.layouts.specs.Calls as L
 use Rattle.walk_judge.specs.declared.Answer.{Answer}
 use Rattle.walk_judge.specs.Judged.{answer_as}
-use Rattle.writers_output.specs.declared.Written.{Written}
 use Rattle.writers_output.specs.Answer.{meaning}
 use Rattle.lintelow_answers.specs.Answers.{written}
 use Rattle.lintelow_answers.specs.Block.{guarded, numbers_of, number_of, block_after}
 use Rattle.lintelow_answers.proofs.Laws.{put_short}
+use Rattle.std.specs.Prelude as Std
+use Rattle.layouts.specs.declared.Refusal.{Refusal}
 
 module _ (block : List ℕ) (b : Answer) where
   pub short_number : length block < 200 → 10 ≡ number_of block b
@@ -55,7 +56,7 @@ module _ (block : List ℕ) (o : Result ℕ) (new lent : List ℕ) where
   pub write_short : length block < 200 → Called (λ x. answer_as (written x)) block o new lent 10 block lent
   write_short = called_short (λ x. answer_as (written x)) block o new lent
 
-  pub write_long : 200 ≤ length block → (w : Written) (out : List ℕ) → (meaning w ≡ o) × (out ≡ lent_after o new lent) → (a : Answer) → a ≡ answer_as (written (meaning w))
+  pub write_long : 200 ≤ length block → (w : Std.Result ℕ Refusal) (out : List ℕ) → (meaning w ≡ o) × (out ≡ lent_after o new lent) → (a : Answer) → a ≡ answer_as (written (meaning w))
       → (r : ℕ) (after : List ℕ) → (r ≡ number_of block a) × (after ≡ block_after block a) → Called (λ x. answer_as (written x)) block o new lent r after out
   write_long h w out f a e r after p = called_long (λ x. answer_as (written x)) block o new lent h a (e ∙ ap (λ (x : Result ℕ). answer_as (written x)) f.0) r after p out f.1
 

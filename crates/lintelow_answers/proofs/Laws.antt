@@ -11,16 +11,14 @@ use Rattle.layouts.specs.Primitive.{pick, number_bytes}
 use Rattle.layouts.proofs.Little.{length_number}
 use Rattle.layouts.specs.declared.Refusal.{Refusal}
 use Rattle.walk_judge.specs.declared.Answer.{Answer}
-use Rattle.walk_judge.specs.declared.Outcome.{Outcome}
-use Rattle.walk_judge.specs.declared.Outcome.TheVariants.{Fine, Refused}
-use Rattle.walk_judge.specs.declared.Said.{Said}
-use Rattle.walk_judge.specs.declared.Said.TheVariants as S
 use Rattle.walk_judge.specs.Judged.{answer_of}
 use Rattle.writers_output.specs.Numbers.{bytes_of}
 use Rattle.writers_output.specs.Placed.{placed}
 use Rattle.writers_output.proofs.Laws.{placed_fits, Filling, filling_start, filling_turn, filling_end}
 use Rattle.writers_output.proofs.Numbers.{bytes_none, bytes_length, bytes_step}
 use Rattle.lintelow_answers.specs.Block.{refusal_of, numbers_of, head_of, block_of, number_put, block_put}
+use Rattle.walk_judge.specs.declared.Said.{Said}
+use Rattle.std.specs.Prelude.{Ok, Err, Result}
 
 -- n elements from k on, by their indices
 abbrev span : ℕ → ℕ → List ℕ → List ℕ
@@ -42,16 +40,16 @@ block_by hs ns cs k l m =
     ap (λ (x : List ℕ). block_of x (span 12 0 ns) (span 3 0 cs)) (span_all 8 hs k) ∙
     ap (λ (x : List ℕ). block_of hs x (span 3 0 cs)) (span_all 12 ns l) ∙ ap (λ (x : List ℕ). block_of hs ns x) (span_all 3 cs m)
 
-pub head_fine : {said : Said} {kind ends ends2 n p : ℕ} {b : Bool} → said ≡ S.Fine kind ends ends2 n p b
+pub head_fine : {said : Result Said Refusal} {kind ends ends2 n p : ℕ} {b : Bool} → said ≡ Ok (record { kind = kind; ends = ends; ends2 = ends2; entries = n; payload = p; present = b })
     → 0 ∷ 0 ∷ 0 ∷ kind ∷ ends ∷ ends2 ∷ n ∷ p ∷ [] ≡ head_of said
 head_fine e = ap head_of (sym e)
 
-pub head_refused : {said : Said} {r : Refusal} → said ≡ S.Refused r → r.which ∷ r.place ∷ r.stream ∷ 0 ∷ 0 ∷ 0 ∷ 0 ∷ 0 ∷ [] ≡ head_of said
+pub head_refused : {said : Result Said Refusal} {r : Refusal} → said ≡ Err r → r.which ∷ r.place ∷ r.stream ∷ 0 ∷ 0 ∷ 0 ∷ 0 ∷ 0 ∷ [] ≡ head_of said
 head_refused e = ap head_of (sym e)
 
-pub said_block : (said : Said) (hs ns cs : List ℕ) → (hs ≡ head_of said) × (length hs ≡ 8) → block_of hs ns cs ≡ numbers_of (answer_of said ns cs)
-said_block (S.Fine kind ends ends2 n p b) hs ns cs e = ap (λ (x : List ℕ). block_of x ns cs) e.0
-said_block (S.Refused r) hs ns cs e = ap (λ (x : List ℕ). block_of x ns cs) e.0
+pub said_block : (said : Result Said Refusal) (hs ns cs : List ℕ) → (hs ≡ head_of said) × (length hs ≡ 8) → block_of hs ns cs ≡ numbers_of (answer_of said ns cs)
+said_block (Ok k) hs ns cs e = ap (λ (x : List ℕ). block_of x ns cs) e.0
+said_block (Err r) hs ns cs e = ap (λ (x : List ℕ). block_of x ns cs) e.0
 
 pub answer_block : (a : Answer) (rs : List ℕ) → (rs ≡ refusal_of a.outcome) × (length rs ≡ 3)
     → block_of (span 3 0 rs ++ (a.kind ∷ a.ends ∷ a.ends2 ∷ a.found.entries ∷ a.found.payload ∷ [])) a.found.numbers a.found.counts ≡ numbers_of a
@@ -59,10 +57,10 @@ answer_block a rs e =
     let rest = a.kind ∷ a.ends ∷ a.ends2 ∷ a.found.entries ∷ a.found.payload ∷ [] in
     ap (λ (x : List ℕ). block_of (x ++ rest) a.found.numbers a.found.counts) (span_all 3 rs e.1 ∙ e.0) ∙ refused_block a a.outcome
   where
-    refused_block : (a : Answer) (o : Outcome) → block_of (refusal_of o ++ (a.kind ∷ a.ends ∷ a.ends2 ∷ a.found.entries ∷ a.found.payload ∷ [])) a.found.numbers a.found.counts
+    refused_block : (a : Answer) (o : Result (Unit {0}) Refusal) → block_of (refusal_of o ++ (a.kind ∷ a.ends ∷ a.ends2 ∷ a.found.entries ∷ a.found.payload ∷ [])) a.found.numbers a.found.counts
         ≡ refusal_of o ++ (a.kind ∷ a.ends ∷ a.ends2 ∷ a.found.entries ∷ a.found.payload ∷ (a.found.numbers ++ (a.found.counts ++ (0 ∷ 0 ∷ []))))
-    refused_block a Fine = refl
-    refused_block a (Refused r) = refl
+    refused_block a (Ok tt) = refl
+    refused_block a (Err r) = refl
 
 -- ---- the numbers from i on are to come
 module _ (lent ns : List ℕ) where

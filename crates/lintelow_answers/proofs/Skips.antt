@@ -8,12 +8,13 @@ use lib.Dec.{eqb}
 use Rattle.layouts.specs.Primitive.{pick, Result, ok, refused}
 use Rattle.layouts.specs.Calls as L
 use Rattle.walk_judge.specs.declared.Answer.{Answer}
-use Rattle.walk_strings.specs.declared.Passed.{Passed}
 use Rattle.walk_judge.specs.Judged.{answer_as}
 use Rattle.walk_pass.specs.Skip.{skipped}
 use Rattle.protocol.specs.declared.Arguments.{Arguments}
 use Rattle.protocol.specs.Protocol.{arguments_as}
 use Rattle.lintelow_answers.specs.Skips.{string_skipped, result_skipped}
+use Rattle.std.specs.Prelude as Std
+use Rattle.layouts.specs.declared.Refusal.{Refusal}
 
 abbrev answer_of : Arguments → (entries : ℕ) → Answer
 answer_of a k =
@@ -34,5 +35,5 @@ pub string_is : (o : Result L.Answer) (es : List ℕ) (a : Arguments) (k : ℕ) 
 string_is o es a k e q = ap (answer_of a) q ∙ ap (λ (x : Arguments). answer_of x (pick (eqb x.kind 2) 1 0)) e ∙ string_by o es
 
 -- an answer with a blank record, by what was told of the skipper's
-pub result_is : (o : Result ℕ) (k x : Passed) → skipped k ≡ o → k ≡ x → (r : Answer) → r ≡ answer_as (result_skipped (skipped x)) → r ≡ answer_as (result_skipped o)
+pub result_is : (o : Result ℕ) (k x : Std.Result ℕ Refusal) → skipped k ≡ o → k ≡ x → (r : Answer) → r ≡ answer_as (result_skipped (skipped x)) → r ≡ answer_as (result_skipped o)
 result_is o k x e t r q = q ∙ ap (λ (y : Result ℕ). answer_as (result_skipped y)) (ap skipped (sym t) ∙ e)

@@ -10,8 +10,9 @@ use Rattle.layouts.specs.Judge.{Ended}
 use Rattle.layouts.specs.Calls.{Answer}
 use Rattle.pieces.specs.Pieces.{Span}
 use Rattle.entries.specs.Entries.{place_of}
-use Rattle.table_operations.specs.declared.Framed.{Framed}
 use Rattle.table_operations.specs.Framed as Ops
+use Rattle.std.specs.Prelude as Std
+use Rattle.layouts.specs.declared.Refusal.{Refusal}
 
 -- 0 is ported, any other number published
 abbrev pub mode_of : ℕ → Mode
@@ -54,7 +55,7 @@ entry_told o = onward o (λ x. ok (answer 0 0 (numbered 0 x.0 x.1 1 0)))
 abbrev pub entry_read : (bytes entries : List ℕ) → (i : ℕ) → Result Answer
 entry_read bytes es i = entry_told (place_of bytes es i)
 
-abbrev pub framed_said : Framed → Result Bool
+abbrev pub framed_said : Std.Result Bool Refusal → Result Bool
 framed_said f = Ops.meaning f
 
 -- major and minor are numbers 0 and 1

@@ -1,16 +1,16 @@
 -- The answer of a call as a block of 25 numbers, for the C boundary.
 use Rattle.std.specs.Prelude.{ℕ, List, [], ◌∷◌, ◌++◌, length, get_or, drop, leb}
 use Rattle.layouts.specs.Primitive.{pick, output_full, Result, refused}
-use Rattle.walk_judge.specs.declared.Outcome.{Outcome}
-use Rattle.walk_judge.specs.declared.Outcome.TheVariants.{Fine, Refused}
 use Rattle.walk_judge.specs.declared.Answer.{Answer}
-use Rattle.walk_judge.specs.declared.Said.{Said}
-use Rattle.walk_judge.specs.declared.Said.TheVariants as S
 use Rattle.writers_output.specs.Numbers.{bytes_of}
+use Rattle.walk_judge.specs.declared.Said.{Said}
+use Rattle.std.specs.Prelude as Std
+use Rattle.layouts.specs.declared.Refusal.{Refusal}
+use Rattle.std.specs.Prelude.{Ok, Err}
 
-abbrev pub refusal_of : Outcome → List ℕ
-refusal_of Fine = 0 ∷ 0 ∷ 0 ∷ []
-refusal_of (Refused r) = r.which ∷ r.place ∷ r.stream ∷ []
+abbrev pub refusal_of : Std.Result (Unit {0}) Refusal → List ℕ
+refusal_of (Ok tt) = 0 ∷ 0 ∷ 0 ∷ []
+refusal_of (Err r) = r.which ∷ r.place ∷ r.stream ∷ []
 
 -- number, place, stream; kind, end, end2, entries, payload; twelve numbers; three counts; two that are kept for later
 abbrev pub numbers_of : Answer → List ℕ
@@ -19,9 +19,9 @@ numbers_of a =
     (a.kind ∷ a.ends ∷ a.ends2 ∷ a.found.entries ∷ a.found.payload ∷ (a.found.numbers ++ (a.found.counts ++ (0 ∷ 0 ∷ []))))
 
 -- the first eight of them, of what is said
-abbrev pub head_of : Said → List ℕ
-head_of (S.Fine kind ends ends2 n p b) = 0 ∷ 0 ∷ 0 ∷ kind ∷ ends ∷ ends2 ∷ n ∷ p ∷ []
-head_of (S.Refused r) = r.which ∷ r.place ∷ r.stream ∷ 0 ∷ 0 ∷ 0 ∷ 0 ∷ 0 ∷ []
+abbrev pub head_of : Std.Result Said Refusal → List ℕ
+head_of (Ok k) = 0 ∷ 0 ∷ 0 ∷ k.kind ∷ k.ends ∷ k.ends2 ∷ k.entries ∷ k.payload ∷ []
+head_of (Err r) = r.which ∷ r.place ∷ r.stream ∷ 0 ∷ 0 ∷ 0 ∷ 0 ∷ 0 ∷ []
 
 -- and the others behind them
 abbrev pub block_of : (head numbers counts : List ℕ) → List ℕ

@@ -15,12 +15,10 @@ ghost use Rattle.layouts.specs.Calls.{context, skip_daemon_result};
 ghost use Rattle.lintelow_answers.specs.Skips.{arguments_skipped, result_skipped};
 
 use entries::Located;
-use layouts::{Mode, Record};
-use table_operations::Framed;
+use layouts::{Mode, Record, Refusal};
 use versions::ProtocolVersion;
-use walk_judge::{Answer, Outcome, Said};
-use walk_strings::Passed;
-use wire::{Peeked, Read, Skipped, Spanned};
+use walk_judge::{Answer, Said};
+use wire::{Cursor, Read, Spanned};
 use writers_output::Written;
 
 // A mode by its number: 0 is ported, any other published, as a flag is read.
@@ -39,7 +37,7 @@ fn fine(kind: u64, ends: usize, a: u64, b: u64, c: u64, entries: usize, payload:
     let numbers = [a, b, c, 0, 0, 0, 0, 0, 0, 0, 0, 0];
     let counts = [0u64; 3];
     Answer {
-        outcome: Outcome::Fine,
+        outcome: Ok(()),
         kind,
         ends,
         ends2: 0,
@@ -54,77 +52,75 @@ fn fine(kind: u64, ends: usize, a: u64, b: u64, c: u64, entries: usize, payload:
 }
 
 // A number, the count of a skipped set, the total of skipped frames.
-pub fn number(r: Read) -> Answer
+pub fn number(r: Result<Read, Refusal>) -> Answer
     ensures { result ≡ answer_as (ended (number_read r)) }
 {
     match r {
-        Read::Value { value, next } => fine(0, next.at, value, 0, 0, 0, 0),
-        Read::Refused(x) => walk_judge::refused_answer(x),
+        Ok(k) => fine(0, k.next.at, k.value, 0, 0, 0, 0),
+        Err(x) => walk_judge::refused_answer(x),
     }
 }
 
-pub fn string(r: Spanned) -> Answer
+pub fn string(r: Result<Spanned, Refusal>) -> Answer
     ensures { result ≡ answer_as (string_read (spanned r)) }
 {
     match r {
-        Spanned::Contents { start, len, next } => {
-            fine(0, next.at, 0, start as u64, len as u64, 1, 0)
-        }
-        Spanned::Refused(x) => walk_judge::refused_answer(x),
+        Ok(k) => fine(0, k.next.at, 0, k.start as u64, k.len as u64, 1, 0),
+        Err(x) => walk_judge::refused_answer(x),
     }
 }
 
 // Framed data whose payload was read.
-pub fn total(r: Read) -> Answer
+pub fn total(r: Result<Read, Refusal>) -> Answer
     ensures { result ≡ answer_as (ended (total_read r)) }
 {
     match r {
-        Read::Value { value, next } => fine(0, next.at, 0, 0, 0, 0, value as usize),
-        Read::Refused(x) => walk_judge::refused_answer(x),
+        Ok(k) => fine(0, k.next.at, 0, 0, 0, 0, k.value as usize),
+        Err(x) => walk_judge::refused_answer(x),
     }
 }
 
 // A set whose strings were read: as many entries as it counts.
-pub fn count(r: Read) -> Answer
+pub fn count(r: Result<Read, Refusal>) -> Answer
     ensures { result ≡ answer_as (ended (count_read r)) }
 {
     match r {
-        Read::Value { value, next } => {
+        Ok(k) => {
             let numbers = [0u64; 12];
-            let counts = [value, 0, 0];
+            let counts = [k.value, 0, 0];
             Answer {
-                outcome: Outcome::Fine,
+                outcome: Ok(()),
                 kind: 0,
-                ends: next.at,
+                ends: k.next.at,
                 ends2: 0,
                 found: Record {
                     numbers,
                     counts,
                     present: false,
-                    entries: value as usize,
+                    entries: k.value as usize,
                     payload: 0,
                 },
             }
         }
-        Read::Refused(x) => walk_judge::refused_answer(x),
+        Err(x) => walk_judge::refused_answer(x),
     }
 }
 
-pub fn passed(r: Skipped) -> Answer
+pub fn passed(r: Result<Cursor, Refusal>) -> Answer
     ensures { result ≡ answer_as (passed_to (skipped_to r)) }
 {
     match r {
-        Skipped::Past(next) => fine(0, next.at, 0, 0, 0, 0, 0),
-        Skipped::Refused(x) => walk_judge::refused_answer(x),
+        Ok(next) => fine(0, next.at, 0, 0, 0, 0, 0),
+        Err(x) => walk_judge::refused_answer(x),
     }
 }
 
-pub fn peek(at: usize, r: Peeked) -> Answer
+pub fn peek(at: usize, r: Option<u64>) -> Answer
     ensures { result ≡ answer_as (peeked_at at (peeked r)) }
 {
     match r {
-        Peeked::Some(n) => fine(1, at, n, 0, 0, 0, 0),
-        Peeked::None => fine(0, at, 0, 0, 0, 0, 0),
+        Some(n) => fine(1, at, n, 0, 0, 0, 0),
+        None => fine(0, at, 0, 0, 0, 0, 0),
     }
 }
 
@@ -132,8 +128,8 @@ pub fn write(r: Written) -> Answer
     ensures { result ≡ answer_as (written (meaning r)) }
 {
     match r {
-        Written::Length(n) => fine(0, n, 0, 0, 0, 0, n),
-        Written::Refused(x) => walk_judge::refused_answer(x),
+        Ok(n) => fine(0, n, 0, 0, 0, 0, n),
+        Err(x) => walk_judge::refused_answer(x),
     }
 }
 
@@ -147,22 +143,21 @@ pub fn yes_no(b: bool) -> Answer
 }
 
 // Where a string lies.
-pub fn entry(r: Located) -> Answer
+pub fn entry(r: Result<Located, Refusal>) -> Answer
     ensures { result ≡ answer_as (entry_told (found r)) }
 {
     match r {
-        Located::Part { start, len } => fine(0, 0, 0, start as u64, len as u64, 1, 0),
-        Located::Refused(x) => walk_judge::refused_answer(x),
+        Ok(k) => fine(0, 0, 0, k.start as u64, k.len as u64, 1, 0),
+        Err(x) => walk_judge::refused_answer(x),
     }
 }
 
-pub fn framed(f: Framed) -> Answer
+pub fn framed(f: Result<bool, Refusal>) -> Answer
     ensures { result ≡ answer_as (yes_no (framed_said f)) }
 {
     match f {
-        Framed::Yes => yes_no(true),
-        Framed::No => yes_no(false),
-        Framed::Refused(x) => walk_judge::refused_answer(x),
+        Ok(b) => yes_no(b),
+        Err(x) => walk_judge::refused_answer(x),
     }
 }
 
@@ -174,38 +169,31 @@ pub fn version(v: ProtocolVersion) -> Answer
 
 pub const BLOCK: usize = 200;
 
-fn refusal(o: Outcome) -> [u64; 3]
+fn refusal(o: Result<(), Refusal>) -> [u64; 3]
     ensures { (result ≡ refusal_of o) × (length result ≡ 3) }
 {
     match o {
-        Outcome::Fine => [0, 0, 0],
-        Outcome::Refused(r) => [r.which, r.place as u64, r.stream],
+        Ok(_) => [0, 0, 0],
+        Err(r) => [r.which, r.place as u64, r.stream],
     }
 }
 
 // Number, place and stream of a refusal, kind, ends, entries and payload.
-fn head(said: Said) -> [u64; 8]
+fn head(said: Result<Said, Refusal>) -> [u64; 8]
     ensures { (result ≡ head_of said) × (length result ≡ 8) }
 {
     match said {
-        Said::Fine {
-            kind,
-            ends,
-            ends2,
-            entries,
-            payload,
-            present: _,
-        } => [
+        Ok(k) => [
             0,
             0,
             0,
-            kind,
-            ends as u64,
-            ends2 as u64,
-            entries as u64,
-            payload as u64,
+            k.kind,
+            k.ends as u64,
+            k.ends2 as u64,
+            k.entries as u64,
+            k.payload as u64,
         ],
-        Said::Refused(r) => [r.which, r.place as u64, r.stream, 0, 0, 0, 0, 0],
+        Err(r) => [r.which, r.place as u64, r.stream, 0, 0, 0, 0, 0],
     }
 }
 
@@ -222,10 +210,8 @@ fn put_numbers(out: &mut [u8], ns: &[u64])
     requires { 8 * length ns.now ≤ length out.old }
     ensures { out.new ≡ placed 0 (bytes_of ns.now) out.old }
 {
-    let mut i: usize = 0;
-    while i < ns.len() {
-        writers_output::put_number(out, 8 * i, ns[i]);
-        i += 1;
+    for (i, n) in ns.iter().enumerate() {
+        writers_output::put_number(out, 8 * i, *n);
     }
 }
 
@@ -265,7 +251,12 @@ pub fn put(block: &mut [u8], a: Answer) -> u64
 }
 
 // The same of what is said, with the numbers and counts beside it.
-pub fn put_said(block: &mut [u8], said: Said, numbers: [u64; 12], counts: [u64; 3]) -> u64
+pub fn put_said(
+    block: &mut [u8],
+    said: Result<Said, Refusal>,
+    numbers: [u64; 12],
+    counts: [u64; 3],
+) -> u64
     ensures number { result ≡ number_of block.old (answer_of said numbers counts) }
     ensures block { block.new ≡ block_after block.old (answer_of said numbers counts) }
 {
@@ -313,13 +304,13 @@ pub fn skip_daemon_result(op: u64, major: u16, minor: u8, s: &[u8]) -> Answer
 {
     let k = protocol::skip_daemon_result(op, major, minor, s);
     match k {
-        Passed::Past(ends) => Answer {
-            outcome: Outcome::Fine,
+        Ok(ends) => Answer {
+            outcome: Ok(()),
             kind: 0,
             ends,
             ends2: 0,
             found: walk_judge::empty(),
         },
-        Passed::Refused(r) => walk_judge::refused_answer(r),
+        Err(r) => walk_judge::refused_answer(r),
     }
 }

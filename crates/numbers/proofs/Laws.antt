@@ -6,15 +6,14 @@ use lib.ListN.{length}
 use borrow.Author.Tests.{le-ltb, lt-ltb}
 use lib.Dec.{ltb}
 use Rattle.layouts.specs.Primitive.{pick, little_at}
-use Rattle.numbers.specs.declared.Number.{Number}
-use Rattle.numbers.specs.declared.Number.TheVariants.{Value, Short}
+use Rattle.std.specs.Prelude.{Option, Some, None}
 
 module _ (k : ℕ) (s : List ℕ) where
-  abbrev read_of : Number
-  read_of = pick (ltb (length s) k) Short (Value (little_at k s 0))
+  abbrev read_of : Option ℕ
+  read_of = pick (ltb (length s) k) None (Some (little_at k s 0))
 
-  pub read_there : (v : ℕ) → k ≤ length s → v ≡ little_at k s 0 → Value v ≡ read_of
+  pub read_there : (v : ℕ) → k ≤ length s → v ≡ little_at k s 0 → Some v ≡ read_of
   read_there v h e = rw (le-ltb (length s) k h, e)
 
-  pub read_none : length s < k → Short ≡ read_of
+  pub read_none : length s < k → None ≡ read_of
   read_none h = rw (lt-ltb (length s) k h)

@@ -4,7 +4,6 @@ use mathlib.Core.Path.{◌≡◌, sym, ◌∙◌}
 use contract.Lifetimes.{Lfts}
 use borrow.Fn.Kinds.{Dens, ended_of}
 use denote.Triple.Clauses.{AtExit}
-use Rattle.numbers.specs.declared.Number.{Number}
 use mathlib.Core.Bool.{Bool}
 use Rattle.numbers.proofs.read.Reads as read
 use Rattle.numbers.proofs.read.Kinds as read-kinds
@@ -16,12 +15,13 @@ use Rattle.numbers.proofs.write_four.Reads as write-four
 use Rattle.numbers.proofs.write_four.Kinds as write-four-kinds
 use Rattle.numbers.proofs.wide.Reads as wide
 use Rattle.numbers.proofs.wide.Kinds as wide-kinds
+use Rattle.std.specs.Prelude.{Option}
 
-pub read_determined : (κs : Lfts 1) (a : Dens κs read-kinds.ps) (r r' : Number) (x x' : AtExit (ended_of 1 read-kinds.ps read-kinds.r) κs)
+pub read_determined : (κs : Lfts 1) (a : Dens κs read-kinds.ps) (r r' : Option ℕ) (x x' : AtExit (ended_of 1 read-kinds.ps read-kinds.r) κs)
     → read.Post κs a r x → read.Post κs a r' x' → r ≡ r'
 read_determined κs a r r' x x' p q = p ∙ sym q
 
-pub read_four_determined : (κs : Lfts 1) (a : Dens κs read-four-kinds.ps) (r r' : Number) (x x' : AtExit (ended_of 1 read-four-kinds.ps read-four-kinds.r) κs)
+pub read_four_determined : (κs : Lfts 1) (a : Dens κs read-four-kinds.ps) (r r' : Option ℕ) (x x' : AtExit (ended_of 1 read-four-kinds.ps read-four-kinds.r) κs)
     → read-four.Post κs a r x → read-four.Post κs a r' x' → r ≡ r'
 read_four_determined κs a r r' x x' p q = p ∙ sym q
 

@@ -6,12 +6,6 @@ ghost use Rattle.layouts.specs.Primitive.{little_at};
 ghost use Rattle.numbers.specs.Number.{number_of, four_of};
 ghost use Rattle.numbers.specs.Stored.{wrote, stored};
 
-#[derive(Drop)]
-pub enum Number {
-    Value(u64),
-    Short,
-}
-
 pub fn wide(b: u8) -> u64
     ensures { (result ≡ b) × (result < 256) }
 {
@@ -41,23 +35,23 @@ fn eight(s: &[u8]) -> u64
 }
 
 // The number that s begins with.
-pub fn read(s: &[u8]) -> Number
+pub fn read(s: &[u8]) -> Option<u64>
     ensures { result ≡ number_of s.now }
 {
     if s.len() < 8 {
-        return Number::Short;
+        return None;
     }
-    Number::Value(eight(s))
+    Some(eight(s))
 }
 
 // The u32 that s begins with.
-pub fn read_four(s: &[u8]) -> Number
+pub fn read_four(s: &[u8]) -> Option<u64>
     ensures { result ≡ four_of s.now }
 {
     if s.len() < 4 {
-        return Number::Short;
+        return None;
     }
-    Number::Value(four(s))
+    Some(four(s))
 }
 
 // The four low bytes of x, where they fit; else nothing is changed.

@@ -15,9 +15,11 @@ use Rattle.layouts.specs.Shape.{Role}
 use Rattle.layouts.specs.Judge.{is_decoded, not_text, text_end, half_taken}
 use Rattle.layouts.proofs.Judge.{bad_inside}
 use Rattle.pieces.specs.Pieces.{span, text_found, role_of, text_to, span_of, string_at}
-use Rattle.pieces.specs.declared.Text as T
-use Rattle.pieces.specs.declared.Text.TheVariants.{Whole, Half, Bad}
 use Rattle.pieces.proofs.Found.{text_read, text_told_lem, bad_plain}
+use Rattle.pieces.specs.declared.Text as T
+use Rattle.pieces.specs.declared.Text.TheVariants.{Half}
+use Rattle.pieces.specs.declared.Text.TheVariants.{Whole}
+use Rattle.std.specs.Prelude.{Ok, Err, Result}
 
 -- where the text of a string ends
 pub text_inside : (s : List ℕ) (start len n : ℕ) → n ≡ good_prefix (take (start + len - start) (drop start s)) → n ≤ len
@@ -63,13 +65,17 @@ module _ (s : List ℕ) (m : Role) (start len : ℕ) where
         by false q f = refl
 
 -- each way through the code that judges a string
-module _ (s : List ℕ) (d : Bool) (at : ℕ) (r : T.Text) (e : r ≡ text_found (text_of (length s) (number_at s at) at)) where
-  string_as : (t : T.Text) → r ≡ t → span_of s (role_of d) (text_read t) ≡ string_at s d at
+module _ (s : List ℕ) (d : Bool) (at : ℕ) (r : Result T.Text Refusal) (e : r ≡ text_found (text_of (length s) (number_at s at) at)) where
+  found_as : (t : Result T.Text Refusal) → r ≡ t → span_of s (role_of d) (text_read t) ≡ string_at s d at
   unfolding string_at
-  string_as t q = ap (span_of s (role_of d)) (text_told_lem s at r e _ q)
+  found_as t q = ap (span_of s (role_of d)) (text_told_lem s at r e _ q)
+
+module _ (s : List ℕ) (d : Bool) (at : ℕ) (v : T.Text) (e : Ok v ≡ text_found (text_of (length s) (number_at s at) at)) where
+  string_as : (t : T.Text) → v ≡ t → span_of s (role_of d) (text_read (Ok t)) ≡ string_at s d at
+  string_as t q = found_as s d at (Ok v) e (Ok t) (ap Ok q)
 
   module _ (start len to : ℕ) (f : to ≡ text_to s (role_of d) start len) where
-    module _ (next : ℕ) (q : r ≡ Whole start len next) where
+    module _ (next : ℕ) (q : v ≡ Whole start len next) where
       pub whole_fine : start + len ≤ to → ok (span start len next) ≡ string_at s d at
       unfolding span_of
       whole_fine l = rw (ends_with s (role_of d) start len to f l) at (string_as (Whole start len next) q)
@@ -78,7 +84,7 @@ module _ (s : List ℕ) (d : Bool) (at : ℕ) (r : T.Text) (e : r ≡ text_found
       unfolding span_of
       whole_bad l x p = let z = ends_early s (role_of d) start len to f l in rw (p, z.1) (rw z.0 at (string_as (Whole start len next) q))
 
-    module _ (q : r ≡ Half start len) where
+    module _ (q : v ≡ Half start len) where
       pub half_fine : start + len ≤ to → (x : Refusal) → x ≡ plain 1 (start + len) → refused_by x ≡ string_at s d at
       unfolding span_of half_taken
       half_fine l x p = rw p (rw (ends_with s (role_of d) start len to f l) at (string_as (Half start len) q))
@@ -87,6 +93,6 @@ module _ (s : List ℕ) (d : Bool) (at : ℕ) (r : T.Text) (e : r ≡ text_found
       unfolding span_of half_taken
       half_bad l x p = let z = ends_early s (role_of d) start len to f l in rw (p, z.1) (rw z.0 at (string_as (Half start len) q))
 
-  pub not_there : (x : Refusal) → r ≡ Bad x → refused_by x ≡ string_at s d at
-  unfolding span_of
-  not_there x q = rw (bad_plain s at r e x q) (string_as (Bad x) q)
+pub not_there : (s : List ℕ) (d : Bool) (at : ℕ) (x : Refusal) → Err x ≡ text_found (text_of (length s) (number_at s at) at) → refused_by x ≡ string_at s d at
+unfolding span_of
+not_there s d at x e = rw (bad_plain s at (Err x) e x refl) (found_as s d at (Err x) e (Err x) refl)

@@ -5,33 +5,35 @@ use Rattle.layouts.specs.Refusal.{refused_by, plain}
 use Rattle.layouts.specs.Shape.{Role, passed, kept}
 use Rattle.layouts.specs.Pieces.{Num, value, short, Text, whole, cut, bad, Chunk, part, last, wrong, text_of}
 use Rattle.layouts.specs.Judge.{not_text, text_end, or_bad, half_taken}
-use Rattle.numbers.specs.declared.Number.{Number}
-use Rattle.numbers.specs.declared.Number.TheVariants.{Value, Short}
 use Rattle.pieces.specs.declared.Text as T
-use Rattle.pieces.specs.declared.Text.TheVariants.{Whole, Half, Bad}
 use Rattle.pieces.specs.declared.Chunk as C
-use Rattle.pieces.specs.declared.Chunk.TheVariants.{Part, Last, Wrong}
-use Rattle.pieces.specs.declared.Verdict.{Verdict}
-use Rattle.pieces.specs.declared.Verdict.TheVariants.{Fine, Refused}
+use Rattle.pieces.specs.declared.Contents.{Contents}
+use Rattle.pieces.specs.declared.Chunk.TheVariants.{Last}
+use Rattle.pieces.specs.declared.Chunk.TheVariants.{Part}
+use Rattle.pieces.specs.declared.Text.TheVariants.{Half}
+use Rattle.pieces.specs.declared.Text.TheVariants.{Whole}
+use Rattle.std.specs.Prelude as Std
+use Rattle.layouts.specs.declared.Refusal.{Refusal}
+use Rattle.std.specs.Prelude.{Option, Some, None, Ok, Err}
 
-abbrev pub num_read : Number → Num
-num_read (Value n) = value n
-num_read Short = short
+abbrev pub num_read : Option ℕ → Num
+num_read (Some n) = value n
+num_read None = short
 
 -- a number of k bytes at a place
 abbrev pub word_at : (k : ℕ) → List ℕ → (at : ℕ) → Num
 word_at k s at = pick (leb (at + k) (length s)) (value (little_at k s at)) short
 
 -- what was found, as the code answers it
-abbrev pub text_found : Text → T.Text
-text_found (whole start len next) = Whole start len next
-text_found (cut start len) = Half start len
-text_found (bad which place) = Bad (plain which place)
+abbrev pub text_found : Text → Std.Result T.Text Refusal
+text_found (whole start len next) = Ok (Whole start len next)
+text_found (cut start len) = Ok (Half start len)
+text_found (bad which place) = Err (plain which place)
 
-abbrev pub chunk_found : Chunk → C.Chunk
-chunk_found (part start len next) = Part start len next
-chunk_found (last next) = Last next
-chunk_found (wrong which place) = Wrong (plain which place)
+abbrev pub chunk_found : Chunk → Std.Result C.Chunk Refusal
+chunk_found (part start len next) = Ok (Part start len next)
+chunk_found (last next) = Ok (Last next)
+chunk_found (wrong which place) = Err (plain which place)
 
 -- a string, by start and length of its contents, and the place after it
 pub record Span : Type 0 where
@@ -42,9 +44,9 @@ pub record Span : Type 0 where
 abbrev pub span : (start len ends : ℕ) → Span
 span start len ends = record { start = start; len = len; ends = ends }
 
-abbrev pub judged_read : Verdict → Result Span
-judged_read (Fine start len next) = ok (span start len next)
-judged_read (Refused r) = refused_by r
+abbrev pub judged_read : Std.Result Contents Refusal → Result Span
+judged_read (Ok k) = ok (span k.start k.len k.next)
+judged_read (Err r) = refused_by r
 
 -- a string that is decoded is kept, another is passed
 abbrev pub role_of : (decoded : Bool) → Role

@@ -19,10 +19,8 @@ fn put_byte(text: &mut [u8], n: usize, b: u8) -> usize {
 
 fn put(text: &mut [u8], n: usize, words: &[u8]) -> usize {
     let mut m = n;
-    let mut i = 0;
-    while i < words.len() {
-        m = put_byte(text, m, words[i]);
-        i += 1;
+    for b in words {
+        m = put_byte(text, m, *b);
     }
     m
 }
@@ -71,24 +69,20 @@ fn put_numbers(
     to: usize,
 ) -> usize {
     let mut m = put(text, n, name);
-    let mut i = from;
-    while i < to {
+    for i in from..to {
         m = put_between(text, m, between, i == from);
         m = put_number(text, m, told::number(block, shown(call, i)));
-        i += 1;
     }
     m
 }
 
 fn put_entries(text: &mut [u8], n: usize, entries: &[u8]) -> usize {
     let mut m = put(text, n, b" e=");
-    let mut i = 0;
-    while i < entries.len() / lent::ENTRY {
+    for i in 0..entries.len() / lent::ENTRY {
         m = put_between(text, m, b',', i == 0);
         m = put_number(text, m, lent::number(entries, lent::ENTRY * i));
         m = put_byte(text, m, b':');
         m = put_number(text, m, lent::number(entries, lent::ENTRY * i + 8));
-        i += 1;
     }
     m
 }
@@ -103,12 +97,9 @@ fn digit(x: u8) -> u8 {
 
 fn put_hex(text: &mut [u8], n: usize, bytes: &[u8]) -> usize {
     let mut m = put(text, n, b" p=");
-    let mut i = 0;
-    while i < bytes.len() {
-        let b = bytes[i];
-        m = put_byte(text, m, digit(b / 16));
-        m = put_byte(text, m, digit(b));
-        i += 1;
+    for b in bytes {
+        m = put_byte(text, m, digit(*b / 16));
+        m = put_byte(text, m, digit(*b));
     }
     m
 }

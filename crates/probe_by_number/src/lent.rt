@@ -1,6 +1,5 @@
 // Memory that is lent to a call: filled with a pattern before it, and held against the pattern after it. Parts that would pass the end are empty, and a
 // number there is 0.
-use numbers::Number;
 
 pub const ENTRY: usize = 16;
 
@@ -10,10 +9,8 @@ fn pattern(i: usize) -> u8 {
 }
 
 pub fn fill(s: &mut [u8]) {
-    let mut i = 0;
-    while i < s.len() {
-        s[i] = pattern(i);
-        i += 1;
+    for (i, b) in s.iter_mut().enumerate() {
+        *b = pattern(i);
     }
 }
 
@@ -22,12 +19,10 @@ pub fn is_kept(s: &[u8], from: usize) -> bool {
     if s.len() < from {
         return false;
     }
-    let mut i = from;
-    while i < s.len() {
+    for i in from..s.len() {
         if s[i] != pattern(i) {
             return false;
         }
-        i += 1;
     }
     true
 }
@@ -82,9 +77,5 @@ pub fn number(s: &[u8], at: usize) -> u64 {
     if s.len() < at {
         return 0;
     }
-    let n = numbers::read(&s[at..]);
-    match n {
-        Number::Value(x) => x,
-        Number::Short => 0,
-    }
+    numbers::read(&s[at..]).unwrap_or(0)
 }

@@ -3,10 +3,9 @@
 // one of zeros (empty strings and sets, false flags), and one whose every number is 1; then the arguments that published mode has otherwise. Each line says from
 // which version on the answer is what. Then the stderr loop, error blocks and both handshakes, with entries in memory of numbers: each line ends with all that was lent, sevens
 // before the call.
-use layouts::Mode;
+use layouts::{Mode, Refusal};
 use protocol::Arguments;
-use walk_judge::{Answer, Outcome};
-use walk_strings::Passed;
+use walk_judge::Answer;
 
 #[derive(Clone, Copy)]
 struct Version {
@@ -15,7 +14,7 @@ struct Version {
 }
 
 // What is shown of an answer: the refusal's number, 0 for none, and its place; else kind, end, entries and payload.
-#[derive(Clone, Copy)]
+#[derive(Clone, Copy, PartialEq, Eq)]
 struct Seen {
     which: u64,
     place: usize,
@@ -66,8 +65,8 @@ fn answered(a: Answer) -> Seen {
     let o = a.outcome;
     let found = a.found;
     match o {
-        Outcome::Refused(r) => refused(r.which, r.place),
-        Outcome::Fine => Seen {
+        Err(r) => refused(r.which, r.place),
+        Ok(_) => Seen {
             which: 0,
             place: 0,
             kind: a.kind,
@@ -81,8 +80,8 @@ fn answered(a: Answer) -> Seen {
 fn skipped_arguments(a: Arguments) -> Seen {
     let o = a.outcome;
     match o {
-        Outcome::Refused(r) => refused(r.which, r.place),
-        Outcome::Fine => Seen {
+        Err(r) => refused(r.which, r.place),
+        Ok(_) => Seen {
             which: 0,
             place: 0,
             kind: a.kind,
@@ -93,10 +92,10 @@ fn skipped_arguments(a: Arguments) -> Seen {
     }
 }
 
-fn skipped_reply(k: Passed) -> Seen {
+fn skipped_reply(k: Result<usize, Refusal>) -> Seen {
     match k {
-        Passed::Refused(r) => refused(r.which, r.place),
-        Passed::Past(ends) => Seen {
+        Err(r) => refused(r.which, r.place),
+        Ok(ends) => Seen {
             which: 0,
             place: 0,
             kind: 0,
@@ -131,15 +130,6 @@ fn see(mode: Mode, call: u8, op: u64, v: Version, s: &[u8]) -> Seen {
         )),
         _ => skipped_reply(protocol::skip_daemon_result(op, v.major, v.minor, s)),
     }
-}
-
-fn same(a: Seen, b: Seen) -> bool {
-    (a.which == b.which)
-        & (a.place == b.place)
-        & (a.kind == b.kind)
-        & (a.ends == b.ends)
-        & (a.entries == b.entries)
-        & (a.payload == b.payload)
 }
 
 fn show(v: Version, x: Seen) {
@@ -178,27 +168,23 @@ fn line(mode: Mode, call: u8, op: u64, s: &[u8]) {
     number(op);
     name(call);
     let mut last = refused(0, 0);
-    let mut i: usize = 0;
-    while i < 33 {
+    for i in 0..33 {
         let v = version_at(i);
         let x = see(mode, call, op, v, s);
-        if (i == 0) | !same(x, last) {
+        if (i == 0) | (x != last) {
             show(v, x);
         }
         last = x;
-        i = i + 1;
     }
     say(b"\n");
 }
 
 fn operations(s: &[u8]) {
-    let mut op: u64 = 0;
-    while op <= 48 {
+    for op in 0..=48 {
         line(Mode::Ported, 0, op, s);
         line(Mode::Ported, 1, op, s);
         line(Mode::Ported, 2, op, s);
         line(Mode::Ported, 3, op, s);
-        op = op + 1;
     }
 }
 
@@ -219,19 +205,15 @@ fn byte_of_one(i: usize) -> u8 {
 
 // Every number of the stream is 1.
 fn ones(out: &mut [u8]) {
-    let mut i = 0;
-    while i < out.len() {
-        out[i] = byte_of_one(i);
-        i += 1;
+    for (i, b) in out.iter_mut().enumerate() {
+        *b = byte_of_one(i);
     }
 }
 
 fn numbers(x: &[u64]) {
-    let mut i = 0;
-    while i < x.len() {
+    for n in x {
         say(b" ");
-        number(x[i]);
-        i += 1;
+        number(*n);
     }
 }
 
@@ -239,11 +221,11 @@ fn told(a: Answer, lent: &[u64]) {
     let o = a.outcome;
     let found = a.found;
     match o {
-        Outcome::Refused(r) => {
+        Err(r) => {
             say(b"no");
             numbers(&[r.which, r.place as u64, r.stream]);
         }
-        Outcome::Fine => {
+        Ok(_) => {
             say(b"kind");
             numbers(&[a.kind]);
             say(b" ends");

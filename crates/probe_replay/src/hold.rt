@@ -21,10 +21,8 @@ fn number(said: &[u8], at: usize, x: u64) -> usize {
 // The answer begins with the block's numbers from kind to counts.
 fn numbers(said: &[u8], block: &[u8]) -> usize {
     let mut at = 0;
-    let mut i = told::KIND;
-    while i < told::ZERO {
+    for i in told::KIND..told::ZERO {
         at = number(said, at, told::number(block, i));
-        i += 1;
     }
     at
 }
@@ -33,17 +31,10 @@ fn bytes(said: &[u8], at: usize, c: &[u8]) -> usize {
     if said.len() < at {
         return NOWHERE;
     }
-    if said.len() - at < c.len() {
-        return NOWHERE;
+    if said[at..].starts_with(c) {
+        return at + c.len();
     }
-    let mut i = 0;
-    while i < c.len() {
-        if said[at + i] != c[i] {
-            return NOWHERE;
-        }
-        i += 1;
-    }
-    at + c.len()
+    NOWHERE
 }
 
 // The contents that an entry points at, which stand behind their length.
@@ -71,12 +62,10 @@ fn entry(said: &[u8], at: usize, a: &[u8], b: &[u8], of_a: bool, start: u64, len
 // Of the entries the first so many point into a, the others into b.
 fn strings(said: &[u8], from: usize, entries: &[u8], of_a: u64, a: &[u8], b: &[u8]) -> usize {
     let mut at = from;
-    let mut i = 0;
-    while i < entries.len() / lent::ENTRY {
+    for i in 0..entries.len() / lent::ENTRY {
         let start = lent::number(entries, lent::ENTRY * i);
         let len = lent::number(entries, lent::ENTRY * i + 8);
         at = entry(said, at, a, b, (i as u64) < of_a, start, len);
-        i += 1;
     }
     at
 }

@@ -4,8 +4,8 @@
 ghost use Rattle.std.specs.Prelude.{◌≤◌};
 
 use layouts::{Mode, Record, Refusal};
-use walk_judge::{Answer, Outcome};
-use wire::{Cursor, Read, Spanned};
+use walk_judge::Answer;
+use wire::Cursor;
 use writers::Written;
 
 const MIB: usize = 1048576;
@@ -38,44 +38,23 @@ fn refused(r: Refusal) {
 
 // Letters of the alphabet over and over, so that a shifted byte shows.
 fn letters(out: &mut [u8]) {
-    let mut i = 0;
-    while i < out.len() {
-        out[i] = b'a' + (i % 26) as u8;
-        i += 1;
+    for (i, b) in out.iter_mut().enumerate() {
+        *b = b'a' + (i % 26) as u8;
     }
-}
-
-// 1 where the bytes differ.
-fn differ(a: u8, b: u8) -> u64
-    ensures { result ≤ 1 }
-{
-    if a == b {
-        return 0;
-    }
-    1
 }
 
 // How many bytes of a and b differ, as far as both go.
 fn differences(a: &[u8], b: &[u8]) -> u64 {
-    let mut n = 0u64;
-    let mut i = 0;
-    while i < a.len() {
-        if b.len() <= i {
-            return n;
-        }
-        n += differ(a[i], b[i]);
-        i += 1;
-    }
-    n
+    a.iter().zip(b).filter(|(x, y)| x != y).count() as u64
 }
 
 fn written(w: Written) -> usize {
     match w {
-        Written::Length(n) => {
+        Ok(n) => {
             tell(b"written ", n as u64);
             n
         }
-        Written::Refused(r) => {
+        Err(r) => {
             refused(r);
             0
         }
@@ -105,11 +84,11 @@ fn contents_back(s: &[u8], start: usize, c: &[u8]) {
 fn string_back(s: &[u8], c: &[u8]) {
     let start = Cursor { at: 0 };
     match start.read_string(s) {
-        Spanned::Contents { start, len, next } => {
-            past(len as u64, next);
-            contents_back(s, start, c);
+        Ok(k) => {
+            past(k.len as u64, k.next);
+            contents_back(s, k.start, c);
         }
-        Spanned::Refused(r) => refused(r),
+        Err(r) => refused(r),
     }
 }
 
@@ -166,11 +145,11 @@ fn a_set() {
 fn set_back(out: &[u8], found: &mut [u64]) {
     let start = Cursor { at: 0 };
     match start.read_string_set(out, found) {
-        Read::Value { value, next } => {
-            past(value, next);
+        Ok(k) => {
+            past(k.value, k.next);
             set_shown(out, found);
         }
-        Read::Refused(r) => refused(r),
+        Err(r) => refused(r),
     }
 }
 
@@ -206,11 +185,11 @@ fn frames(c: &mut [u8; 70000], out: &mut [u8; 70032], back: &mut [u8; 70000]) {
 fn frames_back(s: &[u8], back: &mut [u8], c: &[u8]) {
     let start = Cursor { at: 0 };
     match start.read_framed(s, back) {
-        Read::Value { value, next } => {
-            past(value, next);
+        Ok(k) => {
+            past(k.value, k.next);
             compared(c, back);
         }
-        Read::Refused(r) => refused(r),
+        Err(r) => refused(r),
     }
 }
 
@@ -220,8 +199,8 @@ fn a_large_count() {
     let mut none = [0u64; 0];
     let start = Cursor { at: 0 };
     match start.read_string_set(b"\xFF\xFF\xFF\xFF\xFF\xFF\xFF\xFF", &mut none) {
-        Read::Value { value, next: _ } => number(value),
-        Read::Refused(r) => refused(r),
+        Ok(k) => number(k.value),
+        Err(r) => refused(r),
     }
 }
 
@@ -275,11 +254,11 @@ fn call_in(mode: Mode, words: &[u8], op: u64, minor: u8, record: Record, payload
         &mut out,
     );
     match w {
-        Written::Length(_) => {
+        Ok(_) => {
             written(w);
             call_back(mode, op, minor, &out);
         }
-        Written::Refused(r) => refused(r),
+        Err(r) => refused(r),
     }
 }
 
@@ -289,8 +268,8 @@ fn call_back(mode: Mode, op: u64, minor: u8, out: &[u8]) {
     let a = protocol::read_op_args(mode, op, 1, minor, out, &mut found, &mut room);
     let o = a.outcome;
     match o {
-        Outcome::Fine => call_again(mode, op, minor, a, out, &found, &room),
-        Outcome::Refused(r) => refused(r),
+        Ok(_) => call_again(mode, op, minor, a, out, &found, &room),
+        Err(r) => refused(r),
     }
 }
 

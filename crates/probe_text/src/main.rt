@@ -51,12 +51,11 @@ fn octet(high: u8, low: u8) -> u8 {
 // Takes three bytes for each octet: its digits, and a space or the end of the line.
 fn judge(digits: &[u8]) {
     let mut octets = [0u8; OCTETS];
-    let mut n = 0;
-    while n < OCTETS && n < digits.len() / 3 {
-        octets[n] = octet(byte_at(digits, 3 * n), byte_at(digits, 3 * n + 1));
-        n += 1;
+    let n = OCTETS.min(digits.len() / 3);
+    for i in 0..n {
+        octets[i] = octet(byte_at(digits, 3 * i), byte_at(digits, 3 * i + 1));
     }
-    write_judged(&octets[0..n]);
+    write_judged(&octets[..n]);
 }
 
 // A vector without a name is written as its octets are.

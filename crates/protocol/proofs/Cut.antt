@@ -16,13 +16,10 @@ use Rattle.layouts.specs.Calls.{Context, Answer, arguments_tree, skipped_tree, r
 use Rattle.layouts.specs.Cut.{CutOrLonger, RefusedAsCut, WholeOnly}
 use Rattle.layouts.proofs.Cut.{seen, told_whole, read_reply_whole, skip_reply_whole, read_arguments_whole, skip_arguments_whole}
 use Rattle.walk_judge.specs.declared.Answer as C
-use Rattle.walk_judge.specs.declared.Outcome.TheVariants.{Fine, Refused}
 use Rattle.walk_judge.specs.Judged.{answer_as}
 use Rattle.walk_judge.proofs.Answers.{never}
 use Rattle.walk_judge.proofs.Cut.{answered_room}
 use Rattle.walk_rooms.specs.Rooms.{LentRead, lent_read}
-use Rattle.walk_strings.specs.declared.Passed.{Passed}
-use Rattle.walk_strings.specs.declared.Passed.TheVariants as S
 use Rattle.walk_pass.specs.Skip.{skipped}
 use Rattle.walk_pass.proofs.Unique.{skipped_told}
 use Rattle.protocol.specs.declared.Arguments.{Arguments}
@@ -36,11 +33,14 @@ use Rattle.protocol.proofs.skip_op_args.Reads as skip-op-args
 use Rattle.protocol.proofs.skip_op_args.Kinds as skip-op-args-kinds
 use Rattle.protocol.proofs.skip_daemon_result.Reads as skip-daemon-result
 use Rattle.protocol.proofs.skip_daemon_result.Kinds as skip-daemon-result-kinds
+use Rattle.std.specs.Prelude as Std
+use Rattle.layouts.specs.declared.Refusal.{Refusal}
+use Rattle.std.specs.Prelude.{Ok, Err}
 
 -- ---- reading
 abbrev ReadWhole : (r r' : C.Answer) → (s s' entries' payload' : List ℕ) → (entriesOut entriesOut' payloadOut payloadOut' : List ℕ) → Type 0
 ReadWhole r r' s s' entries' payload' entriesOut entriesOut' payloadOut payloadOut' =
-    CutOrLonger r.ends s s' (RefusedAsCut Refused 0 r'.outcome × ((entriesOut' ≡ entries') × (payloadOut' ≡ payload')))
+    CutOrLonger r.ends s s' (RefusedAsCut Err 0 r'.outcome × ((entriesOut' ≡ entries') × (payloadOut' ≡ payload')))
     ((r' ≡ r) × ((entriesOut' ≡ entriesOut) × (payloadOut' ≡ payloadOut)))
 
 -- both readers: said by what chooses a tree, of the tree's pieces, stream and room
@@ -57,7 +57,7 @@ module _ {K : Type 0} (said : K → List ℕ → (slots room : ℕ) → Result A
     same_read : read_as k' s' entries' payload' ≡ read_as k s' entries payload
     same_read = ap (λ (c : K). read_as c s' entries' payload') same ∙ ap (λ (l : List ℕ). read_as k s' l payload') es ∙ ap (read_as k s' entries) ps
 
-    read_whole : (r r' : C.Answer) (eo eo' po po' : List ℕ) → r.outcome ≡ Fine → Contract r eo po (read_as k s entries payload)
+    read_whole : (r r' : C.Answer) (eo eo' po po' : List ℕ) → r.outcome ≡ (Ok tt) → Contract r eo po (read_as k s entries payload)
         → Contract r' eo' po' (read_as k' s' entries' payload') → ReadWhole r r' s s' entries' payload' eo eo' po po'
     read_whole r r' eo eo' po po' fine p q =
         let u = w k (length entries / 2) (length payload) in
@@ -68,7 +68,7 @@ module _ {K : Type 0} (said : K → List ℕ → (slots room : ℕ) → Result A
 
 pub read_daemon_result_whole : (κs : Lfts 3) (a : Dens κs read-daemon-result-kinds.ps) (r : C.Answer) (x : AtExit (ended_of 3 read-daemon-result-kinds.ps read-daemon-result-kinds.r) κs)
     (κs' : Lfts 3) (a' : Dens κs' read-daemon-result-kinds.ps) (r' : C.Answer) (x' : AtExit (ended_of 3 read-daemon-result-kinds.ps read-daemon-result-kinds.r) κs')
-    → op_of a' ≡ op_of a → version_of a' ≡ version_of a → entries_at a' ≡ entries_at a → payload_at a' ≡ payload_at a → r.outcome ≡ Fine
+    → op_of a' ≡ op_of a → version_of a' ≡ version_of a → entries_at a' ≡ entries_at a → payload_at a' ≡ payload_at a → r.outcome ≡ Ok tt
     → read-daemon-result.Post κs a r x → read-daemon-result.Post κs' a' r' x'
     → ReadWhole r r' (stream_of a) (stream_of a') (entries_at a') (payload_at a') (entries_after x) (entries_after x') (payload_after x) (payload_after x')
 read_daemon_result_whole κs a r x κs' a' r' x' o v es ps fine p q =
@@ -77,7 +77,7 @@ read_daemon_result_whole κs a r x κs' a' r' x' o v es ps fine p q =
 
 pub read_op_args_whole : (κs : Lfts 3) (a : Dens κs read-op-args-kinds.ps) (r : C.Answer) (x : AtExit (ended_of 3 read-op-args-kinds.ps read-op-args-kinds.r) κs)
     (κs' : Lfts 3) (a' : Dens κs' read-op-args-kinds.ps) (r' : C.Answer) (x' : AtExit (ended_of 3 read-op-args-kinds.ps read-op-args-kinds.r) κs')
-    → context_of a' ≡ context_of a → entries_at a'.1 ≡ entries_at a.1 → payload_at a'.1 ≡ payload_at a.1 → r.outcome ≡ Fine
+    → context_of a' ≡ context_of a → entries_at a'.1 ≡ entries_at a.1 → payload_at a'.1 ≡ payload_at a.1 → r.outcome ≡ Ok tt
     → read-op-args.Post κs a r x → read-op-args.Post κs' a' r' x'
     → ReadWhole r r' (stream_of a.1) (stream_of a'.1) (entries_at a'.1) (payload_at a'.1) (entries_after x.1) (entries_after x'.1) (payload_after x.1)
     (payload_after x'.1)
@@ -86,23 +86,23 @@ read_op_args_whole κs a r x κs' a' r' x' same es ps fine p q =
     (entries_after x.1) (entries_after x'.1) (payload_after x.1) (payload_after x'.1) fine p q
 
 -- ---- skipping a reply
-pub skip_daemon_result_whole : (κs : Lfts 1) (a : Dens κs skip-daemon-result-kinds.ps) (r : Passed) (x : AtExit (ended_of 1 skip-daemon-result-kinds.ps skip-daemon-result-kinds.r) κs)
+pub skip_daemon_result_whole : (κs : Lfts 1) (a : Dens κs skip-daemon-result-kinds.ps) (r : Std.Result ℕ Refusal) (x : AtExit (ended_of 1 skip-daemon-result-kinds.ps skip-daemon-result-kinds.r) κs)
     → skip-daemon-result.Post κs a r x
-    → (κs' : Lfts 1) (a' : Dens κs' skip-daemon-result-kinds.ps) (r' : Passed) (x' : AtExit (ended_of 1 skip-daemon-result-kinds.ps skip-daemon-result-kinds.r) κs')
-    → skip-daemon-result.Post κs' a' r' x' → op_of a' ≡ op_of a → version_of a' ≡ version_of a → (ends : ℕ) → r ≡ S.Past ends
-    → CutOrLonger ends (stream_of a) (stream_of a') (RefusedAsCut S.Refused 0 r') (r' ≡ r)
+    → (κs' : Lfts 1) (a' : Dens κs' skip-daemon-result-kinds.ps) (r' : Std.Result ℕ Refusal) (x' : AtExit (ended_of 1 skip-daemon-result-kinds.ps skip-daemon-result-kinds.r) κs')
+    → skip-daemon-result.Post κs' a' r' x' → op_of a' ≡ op_of a → version_of a' ≡ version_of a → (ends : ℕ) → r ≡ Ok ends
+    → CutOrLonger ends (stream_of a) (stream_of a') (RefusedAsCut Err 0 r') (r' ≡ r)
 skip_daemon_result_whole κs a r x p κs' a' r' x' q o v ends passed =
-    told_whole (skip_reply_whole (op_of a) (version_of a)) (stream_of a) (stream_of a') ends (sym p ∙ ap skipped passed) skipped_told S.Refused (λ y. refl) r r' p
+    told_whole (skip_reply_whole (op_of a) (version_of a)) (stream_of a) (stream_of a') ends (sym p ∙ ap skipped passed) skipped_told Err (λ y. refl) r r' p
     (q ∙ same_as (λ op u. skip_daemon_result op u (stream_of a')) o v)
 
 -- ---- skipping arguments
-arguments_fine : (r : Arguments) (o : Result Answer) (es : List ℕ) → r ≡ arguments_as o es → r.outcome ≡ Fine → (y : Answer) × (o ≡ ok y) × (y.ends ≡ r.ends)
+arguments_fine : (r : Arguments) (o : Result Answer) (es : List ℕ) → r ≡ arguments_as o es → r.outcome ≡ (Ok tt) → (y : Answer) × (o ≡ ok y) × (y.ends ≡ r.ends)
 arguments_fine r (ok y) es e f = (y, refl, sym (ap (λ (b : Arguments). b.ends) e))
 arguments_fine r (refused which place stream) es e f = never r.outcome _ f (ap (λ (b : Arguments). b.outcome) e)
 
 pub skip_op_args_whole : (κs : Lfts 1) (a : Dens κs skip-op-args-kinds.ps) (r : Arguments) (x : AtExit (ended_of 1 skip-op-args-kinds.ps skip-op-args-kinds.r) κs) → skip-op-args.Post κs a r x
     → (κs' : Lfts 1) (a' : Dens κs' skip-op-args-kinds.ps) (r' : Arguments) (x' : AtExit (ended_of 1 skip-op-args-kinds.ps skip-op-args-kinds.r) κs') → skip-op-args.Post κs' a' r' x'
-    → context_of a' ≡ context_of a → r.outcome ≡ Fine → CutOrLonger r.ends (stream_of a.1) (stream_of a'.1) (RefusedAsCut Refused 0 r'.outcome) (r' ≡ r)
+    → context_of a' ≡ context_of a → r.outcome ≡ (Ok tt) → CutOrLonger r.ends (stream_of a.1) (stream_of a'.1) (RefusedAsCut Err 0 r'.outcome) (r' ≡ r)
 skip_op_args_whole κs a r x p κs' a' r' x' q same fine =
     let w = skip_arguments_whole (context_of a) in
     let s' = stream_of a'.1 in

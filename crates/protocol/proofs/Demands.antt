@@ -27,9 +27,6 @@ use Rattle.layouts.proofs.Soft.{soft_run}
 use Rattle.layouts.proofs.Theorems.{view_untouched, view_kept, unless_bad_lem}
 use Rattle.layouts.proofs.Calls.{answer_of_lem, soft_skip_reply, soft_read_reply, soft_rest_reply, soft_read_arguments, soft_rest_arguments}
 use Rattle.walk_judge.specs.declared.Answer as C
-use Rattle.walk_strings.specs.declared.Passed.{Passed}
-use Rattle.walk_strings.specs.declared.Passed.TheVariants as S
-use Rattle.walk_judge.specs.declared.Outcome.TheVariants.{Fine, Refused}
 use Rattle.walk_judge.specs.Judged.{answer_as}
 use Rattle.walk_pass.specs.Skip.{skipped}
 use Rattle.walk_judge.proofs.Answers.{answer_fine, refused_keeps, fine_reports, beyond}
@@ -40,6 +37,8 @@ use Rattle.protocol.proofs.read_daemon_result.Reads as read-daemon-result
 use Rattle.protocol.proofs.read_daemon_result.Kinds as read-daemon-result-kinds
 use Rattle.protocol.proofs.skip_daemon_result.Reads as skip-daemon-result
 use Rattle.protocol.proofs.skip_daemon_result.Kinds as skip-daemon-result-kinds
+use Rattle.std.specs.Prelude as Std
+use Rattle.std.specs.Prelude.{Ok, Err}
 
 -- ---- the arguments of a call, by name: operation, version, stream; of a reader also the rooms that are lent for entries and payload
 abbrev pub Lent : Type 0 → Type 0
@@ -131,10 +130,10 @@ module _ (v : Version) (k : Kinds) (slots room : ℕ) (s : List ℕ) (t : Tree) 
 -- the two rooms of a read, before and after it
 module _ (v : Version) (k : Kinds) (slots room : ℕ) (s : List ℕ) (t : Tree) (r : C.Answer) (p : r ≡ answer_as (read_of v k slots room s t)) (es es' ps ps' : List ℕ)
     (e : es' ≡ lent_after (read_of v k slots room s t) (entries_of (run t s 0)) es) (q : ps' ≡ lent_after (read_of v k slots room s t) (payload_of s (run t s 0)) ps) where
-  refused_read : (y : Refusal) → r.outcome ≡ Refused y → (es' ≡ es) × (ps' ≡ ps)
+  refused_read : (y : Refusal) → r.outcome ≡ Err y → (es' ≡ es) × (ps' ≡ ps)
   refused_read y f = (refused_keeps r (read_of v k slots room s t) p y f _ _ _ e, refused_keeps r (read_of v k slots room s t) p y f _ _ _ q)
 
-  written_read : r.outcome ≡ Fine
+  written_read : r.outcome ≡ Ok tt
       → (drop (2 * r.found.entries) es' ≡ drop (2 * r.found.entries) es) × (drop r.found.payload ps' ≡ drop r.found.payload ps)
   written_read f =
       let o = read_of v k slots room s t in
@@ -147,12 +146,12 @@ module _ (v : Version) (k : Kinds) (slots room : ℕ) (s : List ℕ) (t : Tree) 
 module _ (κs : Lfts 3) (a : Dens κs read-op-args-kinds.ps) (r : C.Answer) (x : AtExit (ended_of 3 read-op-args-kinds.ps read-op-args-kinds.r) κs)
     (p : read-op-args.Post κs a r x) where
   -- a refusal changes no lent memory
-  pub arguments_refused : (y : Refusal) → r.outcome ≡ Refused y → (entries_after x.1 ≡ entries_at a.1) × (payload_after x.1 ≡ payload_at a.1)
+  pub arguments_refused : (y : Refusal) → r.outcome ≡ Err y → (entries_after x.1 ≡ entries_at a.1) × (payload_after x.1 ≡ payload_at a.1)
   unfolding read_op_args
   arguments_refused = refused_read (version_of a.1) (arguments_kinds (context_of a)) _ _ (stream_of a.1) (arguments_tree (context_of a)) r p.0 _ _ _ _ p.1.0 p.1.1
 
   -- a success writes only what it reports
-  pub arguments_written : r.outcome ≡ Fine
+  pub arguments_written : r.outcome ≡ Ok tt
       → (drop (2 * r.found.entries) (entries_after x.1) ≡ drop (2 * r.found.entries) (entries_at a.1)) ×
       (drop r.found.payload (payload_after x.1) ≡ drop r.found.payload (payload_at a.1))
   unfolding read_op_args
@@ -161,12 +160,12 @@ module _ (κs : Lfts 3) (a : Dens κs read-op-args-kinds.ps) (r : C.Answer) (x :
 module _ (κs : Lfts 3) (a : Dens κs read-daemon-result-kinds.ps) (r : C.Answer) (x : AtExit (ended_of 3 read-daemon-result-kinds.ps read-daemon-result-kinds.r) κs)
     (p : read-daemon-result.Post κs a r x) where
   -- a refusal changes no lent memory
-  pub reply_refused : (y : Refusal) → r.outcome ≡ Refused y → (entries_after x ≡ entries_at a) × (payload_after x ≡ payload_at a)
+  pub reply_refused : (y : Refusal) → r.outcome ≡ Err y → (entries_after x ≡ entries_at a) × (payload_after x ≡ payload_at a)
   unfolding read_daemon_result
   reply_refused = refused_read (version_of a) (reply_kinds (op_of a)) _ _ (stream_of a) (reply_tree (op_of a) (version_of a)) r p.0 _ _ _ _ p.1.0 p.1.1
 
   -- a success writes only what it reports
-  pub reply_written : r.outcome ≡ Fine
+  pub reply_written : r.outcome ≡ Ok tt
       → (drop (2 * r.found.entries) (entries_after x) ≡ drop (2 * r.found.entries) (entries_at a)) ×
       (drop r.found.payload (payload_after x) ≡ drop r.found.payload (payload_at a))
   unfolding read_daemon_result
@@ -177,16 +176,16 @@ module _ (κs : Lfts 3) (a : Dens κs read-daemon-result-kinds.ps) (r : C.Answer
 pub same_as : {A : Type 0} (f : ℕ → Version → A) {op op' : ℕ} {v v' : Version} → op' ≡ op → v' ≡ v → f op' v' ≡ f op v
 same_as f {op} {op'} {v} {v'} e g = ap (λ (n : ℕ). f n v') e ∙ ap (f op) g
 
-module _ (κs : Lfts 1) (a : Dens κs skip-daemon-result-kinds.ps) (x : AtExit (ended_of 1 skip-daemon-result-kinds.ps skip-daemon-result-kinds.r) κs) (k : Passed)
+module _ (κs : Lfts 1) (a : Dens κs skip-daemon-result-kinds.ps) (x : AtExit (ended_of 1 skip-daemon-result-kinds.ps skip-daemon-result-kinds.r) κs) (k : Std.Result ℕ Refusal)
     (p : skip-daemon-result.Post κs a k x) where
   -- skipping s' ends where skipping s does, and is refused where it is
-  pub soft_skipped : (κs' : Lfts 1) (a' : Dens κs' skip-daemon-result-kinds.ps) (x' : AtExit (ended_of 1 skip-daemon-result-kinds.ps skip-daemon-result-kinds.r) κs') (k' : Passed)
+  pub soft_skipped : (κs' : Lfts 1) (a' : Dens κs' skip-daemon-result-kinds.ps) (x' : AtExit (ended_of 1 skip-daemon-result-kinds.ps skip-daemon-result-kinds.r) κs') (k' : Std.Result ℕ Refusal)
       → skip-daemon-result.Post κs' a' k' x' → op_of a' ≡ op_of a → version_of a' ≡ version_of a → Softened (reply_in a) (stream_of a) (stream_of a') → k' ≡ k
   soft_skipped κs' a' x' k' q o v soft =
       skipped_told k' k (q ∙ same_as (λ op w. skip_daemon_result op w (stream_of a')) o v ∙ soft_skip_reply (op_of a) (version_of a) (stream_of a) (stream_of a') soft ∙ sym p)
 
   -- the reply was passed to its end, and s' is read
-  module _ (ends : ℕ) (passed : k ≡ S.Past ends) (κs' : Lfts 3) (a' : Dens κs' read-daemon-result-kinds.ps)
+  module _ (ends : ℕ) (passed : k ≡ Ok ends) (κs' : Lfts 3) (a' : Dens κs' read-daemon-result-kinds.ps)
       (x' : AtExit (ended_of 3 read-daemon-result-kinds.ps read-daemon-result-kinds.r) κs') (r : C.Answer) (q : read-daemon-result.Post κs' a' r x')
       (o : op_of a' ≡ op_of a) (v : version_of a' ≡ version_of a) (soft : Softened (reply_in a) (stream_of a) (stream_of a')) where
     skips : skip_daemon_result (op_of a) (version_of a) (stream_of a) ≡ ok ends
@@ -217,7 +216,7 @@ module _ (κs : Lfts 1) (a : Dens κs skip-daemon-result-kinds.ps) (x : AtExit (
       soft_judged = (unless_bad (stream_of a') (reply_in a) meaning, soft_answered, unless_bad_lem (stream_of a') (reply_in a) meaning)
 
       -- and its entries are those of s
-      pub soft_kept : r.outcome ≡ Fine → entries_after x' ≡ entries_of (reply_in a) ++ drop (length (entries_of (reply_in a))) (entries_at a')
+      pub soft_kept : r.outcome ≡ (Ok tt) → entries_after x' ≡ entries_of (reply_in a) ++ drop (length (entries_of (reply_in a))) (entries_at a')
       soft_kept f =
           let same : run (reply_tree (op_of a') (version_of a')) (stream_of a') 0 ≡ reply_in a =
           same_as (λ op w. run (reply_tree op w) (stream_of a') 0) o v ∙ soft_run (reply_tree (op_of a) (version_of a)) (stream_of a) (stream_of a') soft in
@@ -225,7 +224,7 @@ module _ (κs : Lfts 1) (a : Dens κs skip-daemon-result-kinds.ps) (x : AtExit (
           ap (λ (y : Pieces). entries_of y ++ drop (length (entries_of y)) (entries_at a')) same
 
       -- string number i that it keeps is the one that s has there, where none of its bytes was changed
-      pub soft_string : r.outcome ≡ Fine → (i : ℕ) → i < kept_of (reply_in a)
+      pub soft_string : r.outcome ≡ (Ok tt) → (i : ℕ) → i < kept_of (reply_in a)
           → Untouched (stream_of a) (stream_of a') (entry_start (entries_of (reply_in a)) i) (entry_length (entries_of (reply_in a)) i)
           → view_of (stream_of a') (entries_after x') i ≡ view_of (stream_of a) (entries_of (reply_in a)) i
       soft_string f i h u =
@@ -235,7 +234,7 @@ module _ (κs : Lfts 1) (a : Dens κs skip-daemon-result-kinds.ps) (x : AtExit (
 
 -- ---- the same for arguments s that were read, and s'
 module _ (κs : Lfts 3) (a : Dens κs read-op-args-kinds.ps) (r : C.Answer) (x : AtExit (ended_of 3 read-op-args-kinds.ps read-op-args-kinds.r) κs)
-    (p : read-op-args.Post κs a r x) (fine : r.outcome ≡ Fine) (κs' : Lfts 3) (a' : Dens κs' read-op-args-kinds.ps) (r' : C.Answer)
+    (p : read-op-args.Post κs a r x) (fine : r.outcome ≡ Ok tt) (κs' : Lfts 3) (a' : Dens κs' read-op-args-kinds.ps) (r' : C.Answer)
     (x' : AtExit (ended_of 3 read-op-args-kinds.ps read-op-args-kinds.r) κs') (q : read-op-args.Post κs' a' r' x') (same : context_of a' ≡ context_of a)
     (soft : Softened (arguments_in a) (stream_of a.1) (stream_of a'.1)) where
   -- what was said of s

@@ -5,11 +5,11 @@ use Rattle.layouts.specs.Refusal.{refusal}
 use Rattle.layouts.specs.Pieces.{run}
 use Rattle.layouts.specs.Judge.{entries_of, payload_of}
 use Rattle.layouts.specs.Calls.{Context, Answer, arguments_tree, reply_tree, read_op_args, read_daemon_result}
-use Rattle.walk_judge.specs.declared.Outcome.TheVariants.{Fine, Refused}
 use Rattle.walk_judge.specs.declared.Answer as C
 use Rattle.walk_judge.specs.Judged.{answer_as}
 use Rattle.walk_rooms.specs.Rooms.{LentRead, lent_read}
 use Rattle.protocol.specs.declared.Arguments.{Arguments}
+use Rattle.std.specs.Prelude.{Ok, Err}
 
 -- ---- a read: the answer, and the two lent slices afterwards. Two numbers make a slot
 abbrev pub arguments_read : Context → (s entries payload : List ℕ) → LentRead C.Answer
@@ -25,5 +25,5 @@ reply_read op v s entries payload =
 -- skipped arguments: the count is number 0, the one string the entry that was kept
 abbrev pub arguments_as : Result Answer → (entries : List ℕ) → Arguments
 arguments_as (ok x) es =
-    record { outcome = Fine; kind = x.kind; ends = x.ends; count = get_or x.found.numbers 0 0; start = get_or es 0 0; len = get_or es 1 0 }
-arguments_as (refused which place stream) es = record { outcome = Refused (refusal which place stream); kind = 0; ends = 0; count = 0; start = 0; len = 0 }
+    record { outcome = (Ok tt); kind = x.kind; ends = x.ends; count = get_or x.found.numbers 0 0; start = get_or es 0 0; len = get_or es 1 0 }
+arguments_as (refused which place stream) es = record { outcome = Err (refusal which place stream); kind = 0; ends = 0; count = 0; start = 0; len = 0 }

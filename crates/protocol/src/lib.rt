@@ -17,17 +17,13 @@ ghost use Rattle.protocol.specs.Protocol.{arguments_read, reply_read, arguments_
 ghost use Rattle.protocol.specs.Bytes as B;
 
 use layouts::{Mode, Refusal};
-use numbers::Number;
-use pieces::Verdict;
-use table_operations::Shape;
 use walk_items::{Brief, Layout};
-use walk_judge::{Answer, Outcome, Said};
-use walk_strings::Passed;
+use walk_judge::{Answer, Said};
 
 // What skipped arguments answer: a kind, where they end, a count ("N paths", "N overrides") or one string, by start and length of its contents.
 #[derive(Drop)]
 pub struct Arguments {
-    pub outcome: Outcome,
+    pub outcome: Result<(), Refusal>,
     pub kind: u64,
     pub ends: usize,
     pub count: u64,
@@ -48,7 +44,6 @@ pub fn read_op_args(
     ensures entries { entries.new ≡ (arguments_read (context mode op major minor) s.now entries.old payload.old).entries }
     ensures payload { payload.new ≡ (arguments_read (context mode op major minor) s.now entries.old payload.old).payload }
 {
-    let mut none: [u8; 0] = [];
     let mut numbers = [0u64; 12];
     let mut counts = [0u64; 3];
     let said = walk_shapes::read_arguments(
@@ -58,7 +53,6 @@ pub fn read_op_args(
         minor,
         s,
         entries,
-        &mut none,
         payload,
         &mut numbers,
         &mut counts,
@@ -77,23 +71,20 @@ pub fn read_op_args_bytes(
     payload: &mut [u8],
     numbers: &mut [u64; 12],
     counts: &mut [u64; 3],
-) -> Said
+) -> Result<Said, Refusal>
     ensures answer { answer_of result numbers.new counts.new
         ≡ (B.arguments_read (context mode op major minor) s.now entries.old payload.old).answer }
     ensures entries { entries.new ≡ (B.arguments_read (context mode op major minor) s.now entries.old payload.old).entries }
     ensures payload { payload.new ≡ (B.arguments_read (context mode op major minor) s.now entries.old payload.old).payload }
 {
-    let mut none: [u64; 0] = [];
-    walk_shapes::read_arguments(
-        mode, op, major, minor, s, &mut none, entries, payload, numbers, counts,
-    )
+    walk_shapes::read_arguments(mode, op, major, minor, s, entries, payload, numbers, counts)
 }
 
 fn refused_arguments(refusal: Refusal) -> Arguments
     ensures { result ≡ arguments_as (refused_by refusal) [] }
 {
     Arguments {
-        outcome: Outcome::Refused(refusal),
+        outcome: Err(refusal),
         kind: 0,
         ends: 0,
         count: 0,
@@ -123,18 +114,11 @@ fn skip_layout(s: &[u8], layout: Layout, code: u8) -> Arguments
         &mut window,
     );
     match a {
-        Said::Refused(r) => refused_arguments(r),
-        Said::Fine {
-            kind: _,
-            ends,
-            ends2: _,
-            entries: _,
-            payload: _,
-            present,
-        } => Arguments {
-            outcome: Outcome::Fine,
-            kind: table_operations::kind_of(code, walk_items::spoken(layout), present),
-            ends,
+        Err(r) => refused_arguments(r),
+        Ok(k) => Arguments {
+            outcome: Ok(()),
+            kind: table_operations::kind_of(code, walk_items::spoken(layout), k.present),
+            ends: k.ends,
             count: numbers[0],
             start: window[0],
             len: window[1],
@@ -146,16 +130,15 @@ fn skip_layout(s: &[u8], layout: Layout, code: u8) -> Arguments
 fn skip_string(s: &[u8], kind: u64) -> Arguments
     ensures { (v : Version) (code : ℕ) → kind ≡ kind_numbered v false code → result ≡ arguments_as (answered_as v code (text_read s.now 1 0)) (entries_of (text_pieces s.now)) }
 {
-    let t = pieces::string_at(s, 0, true);
-    match t {
-        Verdict::Refused(r) => refused_arguments(r),
-        Verdict::Fine { start, len, next } => Arguments {
-            outcome: Outcome::Fine,
+    match pieces::string_at(s, 0, true) {
+        Err(r) => refused_arguments(r),
+        Ok(k) => Arguments {
+            outcome: Ok(()),
             kind,
-            ends: next,
+            ends: k.next,
             count: 0,
-            start: start as u64,
-            len: len as u64,
+            start: k.start as u64,
+            len: k.len as u64,
         },
     }
 }
@@ -164,28 +147,25 @@ fn skip_string(s: &[u8], kind: u64) -> Arguments
 pub fn skip_op_args(mode: Mode, op: u64, major: u16, minor: u8, s: &[u8]) -> Arguments
     ensures { result ≡ arguments_as (skip_op_args (context mode op major minor) s.now) (entries_of (run (skipped_tree (context mode op major minor)) s.now 0)) }
 {
-    let f = table_operations::skipped(mode, op);
-    match f {
-        Shape::Unknown => refused_arguments(layouts::refuse(layouts::UNKNOWN_OPERATION, 0)),
-        Shape::At { first, kind } => {
-            let layout = walk_items::layout(major, minor, first);
-            let b = walk_items::in_brief(layout);
-            if let Brief::Text = b {
-                let one = table_operations::kind_of(kind, walk_items::spoken(layout), false);
-                return skip_string(s, one);
-            }
-            let Brief::Nothing = b else {
-                return skip_layout(s, layout, kind);
-            };
-            Arguments {
-                outcome: Outcome::Fine,
-                kind: table_operations::kind_of(kind, walk_items::spoken(layout), false),
-                ends: 0,
-                count: 0,
-                start: 0,
-                len: 0,
-            }
-        }
+    let Some(shape) = table_operations::skipped(mode, op) else {
+        return refused_arguments(layouts::refuse(layouts::UNKNOWN_OPERATION, 0));
+    };
+    let layout = walk_items::layout(major, minor, shape.first);
+    let b = walk_items::in_brief(layout);
+    if let Brief::Text = b {
+        let one = table_operations::kind_of(shape.kind, walk_items::spoken(layout), false);
+        return skip_string(s, one);
+    }
+    let Brief::Nothing = b else {
+        return skip_layout(s, layout, shape.kind);
+    };
+    Arguments {
+        outcome: Ok(()),
+        kind: table_operations::kind_of(shape.kind, walk_items::spoken(layout), false),
+        ends: 0,
+        count: 0,
+        start: 0,
+        len: 0,
     }
 }
 
@@ -201,7 +181,6 @@ pub fn read_daemon_result(
     ensures entries { entries.new ≡ (reply_read op (version major minor) s.now entries.old payload.old).entries }
     ensures payload { payload.new ≡ (reply_read op (version major minor) s.now entries.old payload.old).payload }
 {
-    let mut none: [u8; 0] = [];
     let mut numbers = [0u64; 12];
     let mut counts = [0u64; 3];
     let said = walk_shapes::read_reply(
@@ -210,7 +189,6 @@ pub fn read_daemon_result(
         minor,
         s,
         entries,
-        &mut none,
         payload,
         &mut numbers,
         &mut counts,
@@ -228,45 +206,32 @@ pub fn read_daemon_result_bytes(
     payload: &mut [u8],
     numbers: &mut [u64; 12],
     counts: &mut [u64; 3],
-) -> Said
+) -> Result<Said, Refusal>
     ensures answer { answer_of result numbers.new counts.new ≡ (B.reply_read op (version major minor) s.now entries.old payload.old).answer }
     ensures entries { entries.new ≡ (B.reply_read op (version major minor) s.now entries.old payload.old).entries }
     ensures payload { payload.new ≡ (B.reply_read op (version major minor) s.now entries.old payload.old).payload }
 {
-    let mut none: [u64; 0] = [];
-    walk_shapes::read_reply(
-        op, major, minor, s, &mut none, entries, payload, numbers, counts,
-    )
+    walk_shapes::read_reply(op, major, minor, s, entries, payload, numbers, counts)
 }
 
 // A layout of one string, with no look at its contents.
-fn skip_text(s: &[u8]) -> Passed
+fn skip_text(s: &[u8]) -> Result<usize, Refusal>
     ensures { skipped result ≡ skip_of (text_pieces s.now) }
 {
-    let t = pieces::string_at(s, 0, false);
-    match t {
-        Verdict::Refused(r) => Passed::Refused(r),
-        Verdict::Fine {
-            start: _,
-            len: _,
-            next,
-        } => Passed::Past(next),
-    }
+    let c = pieces::string_at(s, 0, false)?;
+    Ok(c.next)
 }
 
 // The layout at the start of the stream; one without fields, or of one number or string, needs no fold.
-fn skip_brief(s: &[u8], layout: Layout) -> Passed
+fn skip_brief(s: &[u8], layout: Layout) -> Result<usize, Refusal>
     ensures { skipped result ≡ skip_of (pieces_of layout s.now 0) }
 {
     let b = walk_items::in_brief(layout);
     match b {
-        Brief::Nothing => Passed::Past(0),
+        Brief::Nothing => Ok(0),
         Brief::Number => {
-            let m = pieces::number_at(s, 0);
-            match m {
-                Number::Short => Passed::Refused(layouts::refuse(layouts::CUT_SHORT, 0)),
-                Number::Value(_) => Passed::Past(8),
-            }
+            pieces::number_or_cut(s, 0)?;
+            Ok(8)
         }
         Brief::Text => skip_text(s),
         Brief::Longer => walk_pass::skip(s, 0, layout),
@@ -274,12 +239,11 @@ fn skip_brief(s: &[u8], layout: Layout) -> Passed
 }
 
 // No contents are looked at.
-pub fn skip_daemon_result(op: u64, major: u16, minor: u8, s: &[u8]) -> Passed
+pub fn skip_daemon_result(op: u64, major: u16, minor: u8, s: &[u8]) -> Result<usize, Refusal>
     ensures { skipped result ≡ skip_daemon_result op (version major minor) s.now }
 {
-    let f = table_operations::reply(op);
-    match f {
-        Shape::Unknown => Passed::Refused(layouts::refuse(layouts::UNKNOWN_OPERATION, 0)),
-        Shape::At { first, kind: _ } => skip_brief(s, walk_items::layout(major, minor, first)),
-    }
+    let Some(shape) = table_operations::reply(op) else {
+        return Err(layouts::refuse(layouts::UNKNOWN_OPERATION, 0));
+    };
+    skip_brief(s, walk_items::layout(major, minor, shape.first))
 }

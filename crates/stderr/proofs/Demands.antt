@@ -27,7 +27,6 @@ use Rattle.layouts.proofs.Placed.{never_both}
 use Rattle.layouts.proofs.Theorems.{view_kept, unless_bad_lem}
 use Rattle.layouts.proofs.Stderr.{soft_stderr, soft_rest_stderr, soft_error_pieces, soft_read_error, soft_rest_error}
 use Rattle.walk_judge.specs.declared.Answer.{Answer}
-use Rattle.walk_judge.specs.declared.Outcome.TheVariants.{Fine, Refused}
 use Rattle.walk_judge.specs.Judged.{answer_as}
 use Rattle.walk_judge.proofs.Answers.{answer_fine, refused_keeps, fine_reports, beyond}
 use Rattle.stderr.specs.Loop.{error_read}
@@ -35,6 +34,7 @@ use Rattle.stderr.proofs.read_stderr_loop.Reads as read-stderr-loop
 use Rattle.stderr.proofs.read_stderr_loop.Kinds as read-stderr-loop-kinds
 use Rattle.stderr.proofs.read_stderr_with_error.Reads as read-stderr-with-error
 use Rattle.stderr.proofs.read_stderr_with_error.Kinds as read-stderr-with-error-kinds
+use Rattle.std.specs.Prelude.{Ok, Err}
 
 -- ---- the arguments of a call, by name: the stream; mode and version, which say what block there is, the stream, and the room that is lent for entries; that room at exit
 abbrev loop_stream : {A : Type 0} → Bor (List ℕ) × A → List ℕ
@@ -123,11 +123,11 @@ module _ (κs : Lfts 2) (a : Dens κs read-stderr-with-error-kinds.ps) (r : Answ
   stderr_said = read_stderr_with_error (kind_asked a) (stream_of a) (length (entries_at a) / 2)
 
   -- a refusal changes no lent memory
-  pub stderr_refused : (y : Refusal) → r.outcome ≡ Refused y → entries_after x ≡ entries_at a
+  pub stderr_refused : (y : Refusal) → r.outcome ≡ Err y → entries_after x ≡ entries_at a
   stderr_refused y f = refused_keeps r stderr_said p.0 y f _ _ _ p.1
 
   -- a success writes only what it reports
-  pub stderr_written : r.outcome ≡ Fine → drop (2 * r.found.entries) (entries_after x) ≡ drop (2 * r.found.entries) (entries_at a)
+  pub stderr_written : r.outcome ≡ (Ok tt) → drop (2 * r.found.entries) (entries_after x) ≡ drop (2 * r.found.entries) (entries_at a)
   stderr_written f =
       beyond (2 * r.found.entries) (entries_of (block_in a)) _ _
       (error_counted (kind_asked a) (stream_of a) (length (entries_at a) / 2) _ (answer_fine r stderr_said p.0 f))
@@ -145,7 +145,7 @@ module _ (κs : Lfts 1) (a : Dens κs read-stderr-loop-kinds.ps) (r : Answer) (x
       q ∙ ap (λ (o : Result Stopped). answer_as (onward o (λ y. stderr_answer 0 y.ends (stopped_record y)))) (soft_stderr (loop_stream a) (loop_stream a') soft) ∙ sym p
 
   -- what follows is as before
-  pub soft_followed_loop : r.outcome ≡ Fine → drop r.ends (loop_stream a') ≡ drop r.ends (loop_stream a)
+  pub soft_followed_loop : r.outcome ≡ (Ok tt) → drop r.ends (loop_stream a') ≡ drop r.ends (loop_stream a)
   unfolding read_stderr_loop
   soft_followed_loop f =
       let m = loop_meant (stderr_loop (loop_stream a)) (said_by r) (answer_fine r (read_stderr_loop (loop_stream a)) p f) in
@@ -155,7 +155,7 @@ module _ (κs : Lfts 1) (a : Dens κs read-stderr-loop-kinds.ps) (r : Answer) (x
 -- ---- demand 3 for the loop with the error block: s was read, and s' differs from it in contents and padding of messages and of the error block only, where the same
 -- block is asked for
 module _ (κs : Lfts 2) (a : Dens κs read-stderr-with-error-kinds.ps) (r : Answer) (x : AtExit (ended_of 2 read-stderr-with-error-kinds.ps read-stderr-with-error-kinds.r) κs)
-    (p : read-stderr-with-error.Post κs a r x) (fine : r.outcome ≡ Fine) (κs' : Lfts 2) (a' : Dens κs' read-stderr-with-error-kinds.ps) (r' : Answer)
+    (p : read-stderr-with-error.Post κs a r x) (fine : r.outcome ≡ Ok tt) (κs' : Lfts 2) (a' : Dens κs' read-stderr-with-error-kinds.ps) (r' : Answer)
     (x' : AtExit (ended_of 2 read-stderr-with-error-kinds.ps read-stderr-with-error-kinds.r) κs') (q : read-stderr-with-error.Post κs' a' r' x')
     (same : kind_asked a' ≡ kind_asked a) (soft : SoftenedError (kind_asked a) (stream_of a) (stream_of a')) where
   meant : (y : Stopped) × (stderr_loop (stream_of a) ≡ ok y) × Meant (pick (eqb y.code Error) (kind_asked a) 0) (said_by r) y (block_in a)
@@ -179,13 +179,13 @@ module _ (κs : Lfts 2) (a : Dens κs read-stderr-with-error-kinds.ps) (r : Answ
   )
 
   -- its entries are those of s
-  pub soft_kept_error : r'.outcome ≡ Fine → entries_after x' ≡ entries_of (block_in a) ++ drop (length (entries_of (block_in a))) (entries_at a')
+  pub soft_kept_error : r'.outcome ≡ (Ok tt) → entries_after x' ≡ entries_of (block_in a) ++ drop (length (entries_of (block_in a))) (entries_at a')
   soft_kept_error f =
       fine_reports r' (read_stderr_with_error (kind_asked a) (stream_of a') (length (entries_at a') / 2)) said_same.0 f _ _ _ said_same.1 ∙
       ap (λ (y : Pieces). entries_of y ++ drop (length (entries_of y)) (entries_at a')) (soft_error_pieces (kind_asked a) (stream_of a) (stream_of a') soft meant.0 meant.1)
 
   -- string number i that it keeps is the one that s has there, where none of its bytes was changed
-  pub soft_string_error : r'.outcome ≡ Fine → (i : ℕ) → i < kept_of (block_in a)
+  pub soft_string_error : r'.outcome ≡ (Ok tt) → (i : ℕ) → i < kept_of (block_in a)
       → Untouched (stream_of a) (stream_of a') (entry_start (entries_of (block_in a)) i) (entry_length (entries_of (block_in a)) i)
       → view_of (stream_of a') (entries_after x') i ≡ view_of (stream_of a) (entries_of (block_in a)) i
   soft_string_error f i h u =

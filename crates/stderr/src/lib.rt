@@ -6,13 +6,12 @@ ghost use Rattle.layouts.specs.Stderr.{message_of, stderr_loop, stderr_answer, r
 ghost use Rattle.table.specs.Table.{groups_at};
 ghost use Rattle.codes.specs.Stderr.{code_number};
 ghost use Rattle.walk_judge.specs.Judged.{answer_as};
-ghost use Rattle.stderr.specs.Loop.{said, stopped_as, record_for, block_filled, error_filled, error_read, error_read_bytes};
+ghost use Rattle.stderr.specs.Loop.{said, stopped_as, record_for, block_number, block_filled, error_filled, error_read, error_read_bytes};
 
-use codes::{StderrCode, StderrFound};
+use codes::StderrCode;
 use layouts::{Mode, Record, Refusal};
-use numbers::Number;
-use walk_judge::{Answer, Outcome};
-use walk_strings::Passed;
+use walk_judge::Answer;
+use walk_rooms::Room;
 
 // What a number at the place of a code says: no code; a terminal one; one that the layout at a group follows.
 #[derive(Drop)]
@@ -23,14 +22,11 @@ enum Message {
 }
 
 // How many messages, the terminal code or 0, and where the loop stops.
-#[derive(Drop)]
-enum Stopped {
-    Stops {
-        messages: u64,
-        code: u64,
-        ends: usize,
-    },
-    Refused(Refusal),
+#[derive(Clone, Copy)]
+struct Stopped {
+    messages: u64,
+    code: u64,
+    ends: usize,
 }
 
 fn message_of(code: StderrCode) -> Message
@@ -51,62 +47,44 @@ fn message_of(code: StderrCode) -> Message
 fn find_message(c: u64) -> Message
     ensures { said result ≡ message_of c }
 {
-    let f = StderrCode::from_u64(c);
-    match f {
-        StderrFound::Code(code) => message_of(code),
-        StderrFound::None => Message::NoCode,
+    match StderrCode::from_u64(c) {
+        Some(code) => message_of(code),
+        None => Message::NoCode,
     }
 }
 
 // A number that is no code, or is cut short, is not consumed: the reply may begin there.
-fn stderr_loop(s: &[u8]) -> Stopped
+fn stderr_loop(s: &[u8]) -> Result<Stopped, Refusal>
     ensures { stopped_as result ≡ stderr_loop s.now }
 {
     let mut at: usize = 0;
     let mut messages: u64 = 0;
     loop {
-        let p = pieces::number_at(s, at);
-        match p {
-            Number::Short => {
-                return Stopped::Stops {
+        let Some(c) = pieces::number_at(s, at) else {
+            return Ok(Stopped {
+                messages,
+                code: 0,
+                ends: at,
+            });
+        };
+        match find_message(c) {
+            Message::NoCode => {
+                return Ok(Stopped {
                     messages,
                     code: 0,
                     ends: at,
-                };
+                });
             }
-            Number::Value(c) => {
-                let m = find_message(c);
-                match m {
-                    Message::NoCode => {
-                        return Stopped::Stops {
-                            messages,
-                            code: 0,
-                            ends: at,
-                        };
-                    }
-                    Message::Terminal => {
-                        let count = messages + 1;
-                        let ends = at + 8;
-                        return Stopped::Stops {
-                            messages: count,
-                            code: c,
-                            ends,
-                        };
-                    }
-                    Message::Goes(first) => {
-                        let body = at + 8;
-                        let k = walk_pass::skip(s, body, walk_items::layout(0, 0, first));
-                        match k {
-                            Passed::Refused(r) => {
-                                return Stopped::Refused(r);
-                            }
-                            Passed::Past(next) => {
-                                at = next;
-                                messages = messages + 1;
-                            }
-                        }
-                    }
-                }
+            Message::Terminal => {
+                return Ok(Stopped {
+                    messages: messages + 1,
+                    code: c,
+                    ends: at + 8,
+                });
+            }
+            Message::Goes(first) => {
+                at = walk_pass::skip(s, at + 8, walk_items::layout(0, 0, first))?;
+                messages += 1;
             }
         }
     }
@@ -125,7 +103,7 @@ fn answer(ends: usize, found: Record) -> Answer
     ensures { result ≡ answer_as (stderr_answer 0 ends found) }
 {
     Answer {
-        outcome: Outcome::Fine,
+        outcome: Ok(()),
         kind: 0,
         ends,
         ends2: 0,
@@ -136,95 +114,95 @@ fn answer(ends: usize, found: Record) -> Answer
 pub fn read_stderr_loop(s: &[u8]) -> Answer
     ensures { result ≡ answer_as (read_stderr_loop s.now) }
 {
-    let l = stderr_loop(s);
-    match l {
-        Stopped::Refused(r) => walk_judge::refused_answer(r),
-        Stopped::Stops {
-            messages,
-            code,
-            ends,
-        } => answer(ends, stopped_record(messages, code)),
+    match stderr_loop(s) {
+        Err(r) => walk_judge::refused_answer(r),
+        Ok(k) => answer(k.ends, stopped_record(k.messages, k.code)),
     }
 }
 
 // Kinds of answers, by the error block: nix-wire's, and what has no error; the published source's with traces; the one below 1.26.
-const PORTED: u64 = 0;
+#[derive(Clone, Copy, PartialEq, Eq)]
+enum ErrorBlock {
+    Ported,
+    Traced,
+    Short,
+}
 
-const TRACED: u64 = 1;
-
-const SHORT: u64 = 2;
-
-// The first version whose errors have traces.
-const TRACES: u8 = 26;
-
-fn error_kind(mode: Mode, major: u16, minor: u8) -> u64
-    ensures { result ≡ error_kind mode (version major minor) }
-{
-    match mode {
-        Mode::Ported => PORTED,
-        Mode::Published => {
-            let spoken = walk_items::spoken(walk_items::layout(major, minor, 0));
-            if walk_items::at_least(spoken, TRACES) {
-                return TRACED;
-            }
-            SHORT
+impl ErrorBlock {
+    // The number by which an answer tells its kind.
+    fn number(self) -> u64
+        ensures { result ≡ block_number self }
+    {
+        match self {
+            ErrorBlock::Ported => 0,
+            ErrorBlock::Traced => 1,
+            ErrorBlock::Short => 2,
         }
     }
 }
 
-fn error_block(kind: u64) -> u8
-    ensures { error_groups kind ≡ groups_at result }
+// The first version whose errors have traces.
+const TRACES: u8 = 26;
+
+fn error_kind(mode: Mode, major: u16, minor: u8) -> ErrorBlock
+    ensures { block_number result ≡ error_kind mode (version major minor) }
+{
+    match mode {
+        Mode::Ported => ErrorBlock::Ported,
+        Mode::Published => {
+            let spoken = walk_items::spoken(walk_items::layout(major, minor, 0));
+            if walk_items::at_least(spoken, TRACES) {
+                return ErrorBlock::Traced;
+            }
+            ErrorBlock::Short
+        }
+    }
+}
+
+fn error_block(kind: ErrorBlock) -> u8
+    ensures { error_groups (block_number kind) ≡ groups_at result }
 {
     match kind {
-        PORTED => table::PORTED_ERROR,
-        TRACED => table::TRACED_ERROR,
-        _ => table::SHORT_ERROR,
+        ErrorBlock::Ported => table::PORTED_ERROR,
+        ErrorBlock::Traced => table::TRACED_ERROR,
+        ErrorBlock::Short => table::SHORT_ERROR,
     }
 }
 
 // The error block of a kind from a place on, with the record so far.
-fn read_error_block(
+fn read_error_block<T: Room>(
     s: &[u8],
     at: usize,
-    kind: u64,
+    kind: ErrorBlock,
     sofar: Record,
-    words: &mut [u64],
-    bytes: &mut [u8],
+    entries: &mut [T],
 ) -> Answer
-    ensures answer { result ≡ (block_filled kind s.now at sofar words.old bytes.old).answer }
-    ensures words { words.new ≡ (block_filled kind s.now at sofar words.old bytes.old).words }
-    ensures bytes { bytes.new ≡ (block_filled kind s.now at sofar words.old bytes.old).bytes }
+    ensures answer { result ≡ (block_filled (block_number kind) s.now at sofar (T.slots entries.old) T.laid entries.old).answer }
+    ensures entries { entries.new ≡ (block_filled (block_number kind) s.now at sofar (T.slots entries.old) T.laid entries.old).entries }
 {
     let block = walk_items::layout(0, 0, error_block(kind));
-    let mut a = walk_judge::judge_record(s, at, block, entries::slots(words, bytes), 0, sofar);
-    let o = a.outcome;
-    let Outcome::Fine = o else {
+    let mut a = walk_judge::judge_record(s, at, block, T::slots(entries), 0, sofar);
+    let Ok(_) = a.outcome else {
         return a;
     };
-    walk_fill::fill_entries(s, at, block, words, 0, bytes, 0);
-    a.kind = kind;
+    walk_fill::fill_entries(s, at, block, entries, 0);
+    a.kind = kind.number();
     a
 }
 
 // The loop, and behind Error its block.
-fn read(s: &[u8], kind: u64, words: &mut [u64], bytes: &mut [u8]) -> Answer
-    ensures answer { result ≡ (error_filled kind s.now words.old bytes.old).answer }
-    ensures words { words.new ≡ (error_filled kind s.now words.old bytes.old).words }
-    ensures bytes { bytes.new ≡ (error_filled kind s.now words.old bytes.old).bytes }
+fn read<T: Room>(s: &[u8], kind: ErrorBlock, entries: &mut [T]) -> Answer
+    ensures answer { result ≡ (error_filled (block_number kind) s.now (T.slots entries.old) T.laid entries.old).answer }
+    ensures entries { entries.new ≡ (error_filled (block_number kind) s.now (T.slots entries.old) T.laid entries.old).entries }
 {
-    let l = stderr_loop(s);
-    match l {
-        Stopped::Refused(r) => walk_judge::refused_answer(r),
-        Stopped::Stops {
-            messages,
-            code,
-            ends,
-        } => {
-            let r = stopped_record(messages, code);
-            if code == StderrCode::Error.number() {
-                return read_error_block(s, ends, kind, r, words, bytes);
+    match stderr_loop(s) {
+        Err(r) => walk_judge::refused_answer(r),
+        Ok(k) => {
+            let r = stopped_record(k.messages, k.code);
+            if k.code == StderrCode::Error.number() {
+                return read_error_block(s, k.ends, kind, r, entries);
             }
-            answer(ends, r)
+            answer(k.ends, r)
         }
     }
 }
@@ -239,8 +217,7 @@ pub fn read_stderr_with_error(
     ensures answer { result ≡ (error_read (error_kind mode (version major minor)) s.now entries.old).answer }
     ensures entries { entries.new ≡ (error_read (error_kind mode (version major minor)) s.now entries.old).entries }
 {
-    let mut none: [u8; 0] = [];
-    read(s, error_kind(mode, major, minor), entries, &mut none)
+    read(s, error_kind(mode, major, minor), entries)
 }
 
 // The same with entries of sixteen bytes.
@@ -254,6 +231,5 @@ pub fn read_stderr_with_error_bytes(
     ensures answer { result ≡ (error_read_bytes (error_kind mode (version major minor)) s.now entries.old).answer }
     ensures entries { entries.new ≡ (error_read_bytes (error_kind mode (version major minor)) s.now entries.old).entries }
 {
-    let mut none: [u64; 0] = [];
-    read(s, error_kind(mode, major, minor), &mut none, entries)
+    read(s, error_kind(mode, major, minor), entries)
 }

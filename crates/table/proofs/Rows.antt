@@ -15,26 +15,25 @@ use Rattle.layouts.specs.Operations.{arguments_number, reply_number, skipped_num
 use Rattle.layouts.specs.Operations as O
 use Rattle.layouts.specs.Calls.{Context, chosen, by_row, arguments_tree, skipped_tree, kind_by, arguments_kinds, skipped_kinds, has_framed, if_known}
 use Rattle.table.specs.declared.Row as R
-use Rattle.table.specs.declared.Found.{Found}
-use Rattle.table.specs.declared.Found.TheVariants as F
 use Rattle.table.specs.Packed.{rows, published_rows}
 use Rattle.table.specs.Numbered.{Numbered, numbered_value}
 use Rattle.table.specs.Table.{groups_at, find_in, rows_in, row_for, row_in, own_rows, row_at, numbered_of, kind_numbered}
 use Rattle.table.specs.Claims.{numbered, Said, said, wanted, rows_say, published_say}
+use Rattle.std.specs.Prelude.{Option, Some, None}
 
 map_both : {A B : Type 0} (f : A → B) (xs ys : List A) → map f (xs ++ ys) ≡ map f xs ++ map f ys
 map_both f [] ys = refl
 map_both f (x ∷ xs) ys = ap (λ (zs : List _). f x ∷ zs) (map_both f xs ys)
 
 -- ---- both searches find the same
-abbrev Match : (op : ℕ) → Found → Row → Type 0
-Match op (F.Row r) (row o) = (said r ≡ wanted o) × (o.code ≡ op)
-Match op (F.Row r) unknown = ⊥
-Match op F.Unknown (row o) = ⊥
-Match op F.Unknown unknown = Unit {0}
+abbrev Match : (op : ℕ) → Option R.Row → Row → Type 0
+Match op (Some r) (row o) = (said r ≡ wanted o) × (o.code ≡ op)
+Match op (Some r) unknown = ⊥
+Match op None (row o) = ⊥
+Match op None unknown = Unit {0}
 
-match_if : (op : ℕ) (r : R.Row) (o : Operation) (a b : Bool) (x : Found) (y : Row) → said r ≡ wanted o → a ≡ b → eqb o.code op ≡ b → Match op x y
-    → Match op (pick a (F.Row r) x) (row_if b o y)
+match_if : (op : ℕ) (r : R.Row) (o : Operation) (a b : Bool) (x : Option R.Row) (y : Row) → said r ≡ wanted o → a ≡ b → eqb o.code op ≡ b → Match op x y
+    → Match op (pick a (Some r) x) (row_if b o y)
 match_if op r o true true x y e p q m = (e, eqb-true o.code op q)
 match_if op r o false false x y e p q m = m
 match_if op r o true false x y e p q m = let z : ◌≡◌ {A = ℕ} 0 1 = cc in absurd (omega arith)
@@ -98,7 +97,7 @@ pub record Refuses (c : Context) : Type 0 where
   pub known : if_known (chosen c) (has_framed c.op) ≡ refused 9 0 0
 
 -- the packed row that a context chooses
-abbrev pub packed_row : Context → Found
+abbrev pub packed_row : Context → Option R.Row
 packed_row c = row_for c.mode c.op
 
 module _ (c : Context) where
@@ -117,7 +116,7 @@ module _ (c : Context) where
       (kind_by_lem false o (λ o. by_number arguments_number o.arguments_kind) (numbered_of r.arguments_kind) e (ap (λ (x : Said). x.arguments_kind) q))
       ∙ ap (λ (x : Said). pick (eqb (kind_numbered v false r.arguments_kind) 0) (refused no_arguments 0 0) (ok (first_fields v x.arguments))) (sym q)
 
-  says_by : (r : R.Row) (x : Row) → chosen c ≡ x → Match c.op (F.Row r) x → Says c r
+  says_by : (r : R.Row) (x : Row) → chosen c ≡ x → Match c.op (Some r) x → Says c r
   unfolding arguments_tree skipped_tree
   says_by r unknown e m = absurd m
   says_by r (row o) e m =
@@ -132,33 +131,33 @@ module _ (c : Context) where
         known = rw e;
       }
 
-  refuses_by : (x : Row) → chosen c ≡ x → Match c.op F.Unknown x → Refuses c
+  refuses_by : (x : Row) → chosen c ≡ x → Match c.op None x → Refuses c
   unfolding call_fields arguments_tree skipped_tree
   refuses_by (row o) e m = absurd m
   refuses_by unknown e m = record { call = rw e; arguments = rw e; skips = rw e; reply = rw e; known = rw e }
 
-  matched : (x y : Found) → x ≡ packed_row c → x ≡ y → Match c.op y (chosen c)
-  matched x y e q = subst (λ (z : Found). Match c.op z (chosen c)) (sym e ∙ q) (match_found c.mode c.op)
+  matched : (x y : Option R.Row) → x ≡ packed_row c → x ≡ y → Match c.op y (chosen c)
+  matched x y e q = subst (λ (z : Option R.Row). Match c.op z (chosen c)) (sym e ∙ q) (match_found c.mode c.op)
 
   -- for a caller of `find` that has matched on its answer
-  pub found_says : (x : Found) (r : R.Row) → x ≡ packed_row c → x ≡ F.Row r → Says c r
-  found_says x r e q = says_by r (chosen c) refl (matched x (F.Row r) e q)
+  pub found_says : (x : Option R.Row) (r : R.Row) → x ≡ packed_row c → x ≡ Some r → Says c r
+  found_says x r e q = says_by r (chosen c) refl (matched x (Some r) e q)
 
-  pub unknown_refuses : (x : Found) → x ≡ packed_row c → x ≡ F.Unknown → Refuses c
-  unknown_refuses x e q = refuses_by (chosen c) refl (matched x F.Unknown e q)
+  pub unknown_refuses : (x : Option R.Row) → x ≡ packed_row c → x ≡ None → Refuses c
+  unknown_refuses x e q = refuses_by (chosen c) refl (matched x None e q)
 
 -- ---- a row at a place is what the search for its number finds: no two rows have one number
-rows_found : (m : Mode) → map (λ (r : R.Row). row_for m r.number) (own_rows m) ≡ map F.Row (own_rows m)
+rows_found : (m : Mode) → map (λ (r : R.Row). row_for m r.number) (own_rows m) ≡ map Some (own_rows m)
 unfolding row_for find_in
 rows_found Ported = refl
 rows_found Published = refl
 
-at_place : (f : R.Row → Found) (rs : List R.Row) (i : ℕ) (r : R.Row) → map f rs ≡ map F.Row rs → row_in rs i ≡ F.Row r → f r ≡ F.Row r
+at_place : (f : R.Row → Option R.Row) (rs : List R.Row) (i : ℕ) (r : R.Row) → map f rs ≡ map Some rs → row_in rs i ≡ Some r → f r ≡ Some r
 unfolding row_in
 at_place f [] i r e q = let z : ◌≡◌ {A = ℕ} 0 1 = cc in absurd (omega arith)
-at_place f (x ∷ rs) zero r e q = let h : x ≡ r = cc in let g : f x ≡ F.Row x = cc in rw (← h) g
-at_place f (x ∷ rs) (suc i) r e q = let t : map f rs ≡ map F.Row rs = cc in at_place f rs i r t q
+at_place f (x ∷ rs) zero r e q = let h : x ≡ r = cc in let g : f x ≡ Some x = cc in rw (← h) g
+at_place f (x ∷ rs) (suc i) r e q = let t : map f rs ≡ map Some rs = cc in at_place f rs i r t q
 
-pub found_at : (m : Mode) (i : ℕ) (r : R.Row) → row_at m i ≡ F.Row r → row_for m r.number ≡ F.Row r
+pub found_at : (m : Mode) (i : ℕ) (r : R.Row) → row_at m i ≡ Some r → row_for m r.number ≡ Some r
 unfolding row_at
 found_at m i r q = at_place (λ (x : R.Row). row_for m x.number) (own_rows m) i r (rows_found m) q

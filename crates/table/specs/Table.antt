@@ -7,10 +7,9 @@ use Rattle.layouts.specs.Shape.{Target, dropped, as_number, as_flag, as_count, a
 use Rattle.table.specs.declared.Field.{Field}
 use Rattle.table.specs.declared.PackedGroup.{PackedGroup}
 use Rattle.table.specs.declared.Row.{Row}
-use Rattle.table.specs.declared.Found.{Found}
-use Rattle.table.specs.declared.Found.TheVariants as F
 use Rattle.table.specs.Numbered.{Numbered, just, numbered_value}
 use Rattle.table.specs.Packed.{packed_table, rows, published_rows, first_code, kind_list}
+use Rattle.std.specs.Prelude.{Option, Some, None}
 
 abbrev pub field_of : ℕ → Field
 field_of x = record { kind = x % 16; role = x / 16 % 4; target = x / 64 % 64; gate = x / 4096 % 4; minor = x / 16384 % 256 }
@@ -78,16 +77,16 @@ abbrev pub version_in : ℕ → Version
 version_in n = version (n / 256) (n % 256)
 
 -- ---- the row of an operation
-unfoldable pub find_in : List Row → (op : ℕ) → Found
-find_in [] op = F.Unknown
-find_in (r ∷ rs) op = pick (eqb r.number op) (F.Row r) (find_in rs op)
+unfoldable pub find_in : List Row → (op : ℕ) → Option Row
+find_in [] op = None
+find_in (r ∷ rs) op = pick (eqb r.number op) (Some r) (find_in rs op)
 
 -- published mode has rows of its own before the others
 abbrev pub rows_in : Mode → List Row
 rows_in Ported = rows
 rows_in Published = published_rows ++ rows
 
-unfoldable pub row_for : Mode → (op : ℕ) → Found
+unfoldable pub row_for : Mode → (op : ℕ) → Option Row
 row_for m op = find_in (rows_in m) op
 
 -- the i-th row of a mode's own
@@ -95,12 +94,12 @@ abbrev pub own_rows : Mode → List Row
 own_rows Ported = rows
 own_rows Published = published_rows
 
-unfoldable pub row_in : List Row → (i : ℕ) → Found
-row_in [] i = F.Unknown
-row_in (r ∷ rs) zero = F.Row r
+unfoldable pub row_in : List Row → (i : ℕ) → Option Row
+row_in [] i = None
+row_in (r ∷ rs) zero = Some r
 row_in (r ∷ rs) (suc i) = row_in rs i
 
-unfoldable pub row_at : Mode → (i : ℕ) → Found
+unfoldable pub row_at : Mode → (i : ℕ) → Option Row
 row_at m i = row_in (own_rows m) i
 
 -- ---- kinds by code: those of the list from the first code on, and any other code is the kind's number

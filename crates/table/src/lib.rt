@@ -40,12 +40,6 @@ pub struct Row {
     pub reply_kind: u8,
 }
 
-#[derive(Drop)]
-pub enum Found {
-    Row(Row),
-    Unknown,
-}
-
 // Kinds of fields. The first ends a group of them.
 pub const END: u8 = 0;
 

@@ -8,27 +8,15 @@ ghost use Rattle.std.specs.Prelude.{◌≡◌, get_or};
 ghost use Rattle.table.specs.Packed.{packed_table};
 
 use layouts::Mode;
-use table::Found;
+use table::Row;
 
 // The i-th of a mode's own rows. A constant table is built on the stack where it is read, so the functions of `table_operations` are the way of a call.
-pub fn row_at(mode: Mode, i: usize) -> Found
+pub fn row_at(mode: Mode, i: usize) -> Option<Row>
     ensures { result ≡ row_at mode i }
 {
     match mode {
-        Mode::Ported => {
-            if operations::COUNT <= i {
-                return Found::Unknown;
-            }
-            let all = operations::OPERATIONS;
-            Found::Row(all[i])
-        }
-        Mode::Published => {
-            if operations::PUBLISHED_COUNT <= i {
-                return Found::Unknown;
-            }
-            let all = operations::PUBLISHED;
-            Found::Row(all[i])
-        }
+        Mode::Ported => operations::OPERATIONS.get(i).copied(),
+        Mode::Published => operations::PUBLISHED.get(i).copied(),
     }
 }
 

@@ -1,18 +1,18 @@
 -- An arm of the match, and its last.
-use Prim.Native.Nat.{ℕ}
+use Prim.Native.Nat.{ℕ, ◌/◌, ◌%◌}
+use native.Mathlib.Omega.{arith}
 use mathlib.Core.Path.{◌≡◌, refl, sym, ◌∙◌, ap, subst}
 use mathlib.Core.List.{List, [], ◌∷◌, ◌++◌}
-use mathlib.Core.Bool.{Bool}
+use mathlib.Core.Bool.{Bool, true, false}
 use Rattle.layouts.specs.declared.Mode.{Mode}
 use Rattle.layouts.specs.declared.Mode.TheVariants.{Ported, Published}
 use Rattle.layouts.specs.Primitive.{pick}
 use borrow.Author.Tests.{ne_eqb}
 use Rattle.table.specs.declared.Row.{Row}
-use Rattle.table.specs.declared.Found.TheVariants as F
 use Rattle.table.specs.Packed.{rows, published_rows}
 use Rattle.table.specs.Table.{find_in, row_for}
-use Rattle.table_operations.specs.declared.Shape.TheVariants.{Unknown, At}
-use Rattle.table_operations.specs.Rows.{unpacked, row_of, shape_of}
+use Rattle.table_operations.specs.Rows.{shape_in, unpacked, row_of, shape_of}
+use Rattle.std.specs.Prelude.{eqb, Some, None}
 
 -- op is the number of no row, as the last arm of a match is told
 abbrev pub Missed : List Row → ℕ → Type 0 → Type 0
@@ -38,11 +38,16 @@ others op x m e = e ∙ (missed published_rows rows op (Unit {0}) m).0
 pub arm : (m : Mode) {op k : ℕ} (x : ℕ) → op ≡ k → row_of k x ≡ row_for m k → row_of op x ≡ row_for m op
 arm m x e h = subst (λ (i : ℕ). row_of i x ≡ row_for m i) (sym e) h
 
-module _ (first kind : Row → ℕ) (m : Mode) (op x : ℕ) (e : row_of op x ≡ row_for m op) where
-  pub no_row : x ≡ 0 → Unknown ≡ shape_of first kind (row_for m op)
-  unfolding row_of
-  no_row z = subst (λ (y : ℕ). shape_of first kind (row_of op y) ≡ shape_of first kind (row_for m op)) z (ap (shape_of first kind) e)
+-- what is divided by 1
+pub by_one : (x kind : ℕ) → shape_in x 1 kind ≡ pick (eqb x 0) None (Some (record { first = x % 256; kind = x / kind % 256 }))
+by_one x kind = let last : x / 1 ≡ x = omega arith in rw last
 
-  pub a_row : (x ≡ 0 → ⊥) → At (first (unpacked op x)) (kind (unpacked op x)) ≡ shape_of first kind (row_for m op)
-  unfolding row_of
-  a_row z = ap (λ (b : Bool). shape_of first kind (pick b F.Unknown (F.Row (unpacked op x)))) (sym (ne_eqb x 0 z)) ∙ ap (shape_of first kind) e
+-- one shape of a row that was found
+pub shaped : (first kind : Row → ℕ) (m : Mode) (op x : ℕ) → row_of op x ≡ row_for m op
+    → pick (eqb x 0) None (Some (record { first = first (unpacked op x); kind = kind (unpacked op x) })) ≡ shape_of first kind (row_for m op)
+unfolding row_of
+shaped first kind m op x e = by (eqb x 0) refl ∙ ap (shape_of first kind) e
+  where
+    by : (b : Bool) → eqb x 0 ≡ b → pick b None (Some (record { first = first (unpacked op x); kind = kind (unpacked op x) })) ≡ shape_of first kind (pick b None (Some (unpacked op x)))
+    by true q = refl
+    by false q = refl

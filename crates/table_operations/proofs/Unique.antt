@@ -3,13 +3,10 @@ use mathlib.Core.Path.{◌≡◌, sym, ◌∙◌, refl, ap}
 use contract.Lifetimes.{Lfts}
 use borrow.Fn.Kinds.{Dens, ended_of, ParamKind, ResultKind, Out, res_t}
 use denote.Triple.Clauses.{AtExit}
-use Rattle.table_operations.specs.declared.Shape.{Shape}
 use mathlib.Core.List.{List}
-use mathlib.Core.Bool.{Bool, true, false}
+use mathlib.Core.Bool.{Bool}
 use Rattle.layouts.specs.Primitive.{Result, ok, refused}
 use Rattle.layouts.specs.Refusal.{refusal}
-use Rattle.table_operations.specs.declared.Framed.{Framed}
-use Rattle.table_operations.specs.declared.Framed.TheVariants.{Yes, No, Refused}
 use Rattle.table_operations.specs.Framed.{meaning}
 use Prim.Native.Nat.{ℕ}
 use Rattle.table_operations.proofs.arguments.Reads as arguments
@@ -22,16 +19,20 @@ use Rattle.table_operations.proofs.op_has_client_framed_data.Reads as op-has-cli
 use Rattle.table_operations.proofs.op_has_client_framed_data.Kinds as op-has-client-framed-data-kinds
 use Rattle.table_operations.proofs.kind_of.Reads as kind-of
 use Rattle.table_operations.proofs.kind_of.Kinds as kind-of-kinds
+use Rattle.table_operations.specs.declared.Shape.{Shape}
+use Rattle.std.specs.Prelude as Std
+use Rattle.layouts.specs.declared.Refusal.{Refusal}
+use Rattle.std.specs.Prelude.{Option, Ok, Err}
 
-pub arguments_unique : (κs : Lfts 0) (a : Dens κs arguments-kinds.ps) (r r' : Shape) (x x' : AtExit (ended_of 0 arguments-kinds.ps arguments-kinds.r) κs)
+pub arguments_unique : (κs : Lfts 0) (a : Dens κs arguments-kinds.ps) (r r' : Option Shape) (x x' : AtExit (ended_of 0 arguments-kinds.ps arguments-kinds.r) κs)
     → arguments.Post κs a r x → arguments.Post κs a r' x' → r ≡ r'
 arguments_unique κs a r r' x x' p q = p ∙ sym q
 
-pub skipped_unique : (κs : Lfts 0) (a : Dens κs skipped-kinds.ps) (r r' : Shape) (x x' : AtExit (ended_of 0 skipped-kinds.ps skipped-kinds.r) κs)
+pub skipped_unique : (κs : Lfts 0) (a : Dens κs skipped-kinds.ps) (r r' : Option Shape) (x x' : AtExit (ended_of 0 skipped-kinds.ps skipped-kinds.r) κs)
     → skipped.Post κs a r x → skipped.Post κs a r' x' → r ≡ r'
 skipped_unique κs a r r' x x' p q = p ∙ sym q
 
-pub reply_unique : (κs : Lfts 0) (a : Dens κs reply-kinds.ps) (r r' : Shape) (x x' : AtExit (ended_of 0 reply-kinds.ps reply-kinds.r) κs)
+pub reply_unique : (κs : Lfts 0) (a : Dens κs reply-kinds.ps) (r r' : Option Shape) (x x' : AtExit (ended_of 0 reply-kinds.ps reply-kinds.r) κs)
     → reply.Post κs a r x → reply.Post κs a r' x' → r ≡ r'
 reply_unique κs a r r' x x' p q = p ∙ sym q
 
@@ -41,17 +42,15 @@ Determined ps k Post =
     (κs : Lfts 0) (a : Dens κs ps) (r r' : (res_t k κs).Denot) (x x' : AtExit (ended_of 0 ps k) κs) → Post κs a r x → Post κs a r' x' → r ≡ r'
 
 -- an answer is told by its meaning
-abbrev told_by : Result Bool → Framed
-told_by (ok true) = Yes
-told_by (ok false) = No
-told_by (refused which place stream) = Refused (refusal which place stream)
+abbrev told_by : Result Bool → Std.Result Bool Refusal
+told_by (ok b) = Ok b
+told_by (refused which place stream) = Err (refusal which place stream)
 
-told_by_lem : (r : Framed) → told_by (meaning r) ≡ r
-told_by_lem Yes = refl
-told_by_lem No = refl
-told_by_lem (Refused r) = refl
+told_by_lem : (r : Std.Result Bool Refusal) → told_by (meaning r) ≡ r
+told_by_lem (Ok b) = refl
+told_by_lem (Err r) = refl
 
-framed_unique : (r r' : Framed) → meaning r ≡ meaning r' → r ≡ r'
+framed_unique : (r r' : Std.Result Bool Refusal) → meaning r ≡ meaning r' → r ≡ r'
 framed_unique r r' e = sym (told_by_lem r) ∙ ap told_by e ∙ told_by_lem r'
 
 pub op_has_client_framed_data_determined : Determined op-has-client-framed-data-kinds.ps op-has-client-framed-data-kinds.r op-has-client-framed-data.Post

@@ -1,11 +1,11 @@
 -- What `op_has_client_framed_data` answers.
-use Rattle.std.specs.Prelude.{Bool, true, false}
+use Rattle.std.specs.Prelude.{Bool}
 use Rattle.layouts.specs.Primitive.{Result, ok}
 use Rattle.layouts.specs.Refusal.{refused_by}
-use Rattle.table_operations.specs.declared.Framed.{Framed}
-use Rattle.table_operations.specs.declared.Framed.TheVariants.{Yes, No, Refused}
+use Rattle.std.specs.Prelude as Std
+use Rattle.layouts.specs.declared.Refusal.{Refusal}
+use Rattle.std.specs.Prelude.{Ok, Err}
 
-abbrev pub meaning : Framed → Result Bool
-meaning Yes = ok true
-meaning No = ok false
-meaning (Refused r) = refused_by r
+abbrev pub meaning : Std.Result Bool Refusal → Result Bool
+meaning (Ok b) = ok b
+meaning (Err r) = refused_by r

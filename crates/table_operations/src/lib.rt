@@ -4,10 +4,10 @@
 mod decided;
 mod rows;
 
-ghost use Rattle.std.specs.Prelude.{◌≡◌};
+ghost use Rattle.std.specs.Prelude.{◌≡◌, ◌<◌};
 ghost use Rattle.table.specs.Table.{row_for, version_in, kind_numbered};
 ghost use Rattle.layouts.specs.declared.Mode.TheVariants.{Ported};
-ghost use Rattle.table_operations.specs.Rows.{row_of, arguments_of, skipped_of, reply_of};
+ghost use Rattle.table_operations.specs.Rows.{row_of, shape_in, arguments_of, skipped_of, reply_of};
 ghost use Rattle.layouts.specs.Calls.{has_framed, op_has_client_framed_data};
 ghost use Rattle.table_operations.specs.Framed.{meaning};
 ghost use Rattle.layouts.specs.Primitive.{version, at_least, pick};
@@ -17,9 +17,9 @@ pub use table_code::row_at;
 
 // A shape of an operation: its first group in the table, and the code of its kinds.
 #[derive(Clone, Copy)]
-pub enum Shape {
-    Unknown,
-    At { first: u8, kind: u8 },
+pub struct Shape {
+    pub first: u8,
+    pub kind: u8,
 }
 
 // A row is packed as a number: a byte each for the groups of arguments, skipped arguments and reply, and for the kinds of the three; then 1. 0 is no row. A call
@@ -33,44 +33,37 @@ fn row_code(mode: Mode, op: u64) -> u64
     }
 }
 
-pub fn arguments(mode: Mode, op: u64) -> Shape
-    ensures { result ≡ arguments_of (row_for mode op) }
+// Its bytes in a packed row stand where x is divided by so much.
+fn packed_shape(x: u64, first: u64, kind: u64) -> Option<Shape>
+    requires { (0 < first) × (0 < kind) }
+    ensures { result ≡ shape_in x first kind }
 {
-    let x = row_code(mode, op);
     if x == 0 {
-        return Shape::Unknown;
+        return None;
     }
-    Shape::At {
-        first: (x % 256) as u8,
-        kind: (x / 16777216 % 256) as u8,
-    }
+    Some(Shape {
+        first: (x / first % 256) as u8,
+        kind: (x / kind % 256) as u8,
+    })
 }
 
-pub fn skipped(mode: Mode, op: u64) -> Shape
+pub fn arguments(mode: Mode, op: u64) -> Option<Shape>
+    ensures { result ≡ arguments_of (row_for mode op) }
+{
+    packed_shape(row_code(mode, op), 1, 16777216)
+}
+
+pub fn skipped(mode: Mode, op: u64) -> Option<Shape>
     ensures { result ≡ skipped_of (row_for mode op) }
 {
-    let x = row_code(mode, op);
-    if x == 0 {
-        return Shape::Unknown;
-    }
-    Shape::At {
-        first: (x / 256 % 256) as u8,
-        kind: (x / 4294967296 % 256) as u8,
-    }
+    packed_shape(row_code(mode, op), 256, 4294967296)
 }
 
 // A reply is the same in both modes.
-pub fn reply(op: u64) -> Shape
+pub fn reply(op: u64) -> Option<Shape>
     ensures { result ≡ reply_of (row_for Ported op) }
 {
-    let x = rows::ported(op);
-    if x == 0 {
-        return Shape::Unknown;
-    }
-    Shape::At {
-        first: (x / 65536 % 256) as u8,
-        kind: (x / 1099511627776 % 256) as u8,
-    }
+    packed_shape(rows::ported(op), 65536, 1099511627776)
 }
 
 const ADD_TO_STORE: u64 = 7;
@@ -80,13 +73,6 @@ const ADD_TO_STORE_NAR: u64 = 39;
 const ADD_MULTIPLE_TO_STORE: u64 = 44;
 
 const ADD_BUILD_LOG: u64 = 45;
-
-#[derive(Drop)]
-pub enum Framed {
-    Yes,
-    No,
-    Refused(Refusal),
-}
 
 fn has_framed(op: u64) -> bool
     ensures { result ≡ has_framed op }
@@ -98,19 +84,13 @@ fn has_framed(op: u64) -> bool
 }
 
 // Does the client send framed data with this operation?
-pub fn op_has_client_framed_data(op: u64) -> Framed
+pub fn op_has_client_framed_data(op: u64) -> Result<bool, Refusal>
     ensures { meaning result ≡ op_has_client_framed_data op }
 {
-    let found = arguments(Mode::Ported, op);
-    match found {
-        Shape::Unknown => Framed::Refused(layouts::refuse(layouts::UNKNOWN_OPERATION, 0)),
-        Shape::At { first: _, kind: _ } => {
-            if has_framed(op) {
-                return Framed::Yes;
-            }
-            Framed::No
-        }
-    }
+    let Some(_) = arguments(Mode::Ported, op) else {
+        return Err(layouts::refuse(layouts::UNKNOWN_OPERATION, 0));
+    };
+    Ok(has_framed(op))
 }
 
 fn either(b: bool, yes: u8, no: u8) -> u8

@@ -1,5 +1,5 @@
 -- The row of a byte, as the arms of a match give it, and what it has for a state.
-use Prim.Native.Nat.{ℕ, zero, suc, ◌/◌, ◌%◌, ◌^◌, ◌≤◌, ◌<◌}
+use Prim.Native.Nat.{ℕ, ◌/◌, ◌%◌, ◌^◌, ◌≤◌, ◌<◌}
 use mathlib.Core.Path.{◌≡◌, sym, ap}
 use native.Mathlib.Omega.{arith}
 use lib.Bits.{bit_and, and_mask}
@@ -8,15 +8,6 @@ use Rattle.text_states.specs.States.{beginning, row_of, next_state}
 
 pub arm : {b k : ℕ} → b ≡ k → row_of k ≡ row_of b
 arm e = ap row_of (sym e)
-
--- i is none of the first n numbers, as the last arm is told
-abbrev pub Misses : ℕ → ℕ → Type 0
-Misses zero i = Unit {0}
-Misses (suc n) i = Misses n i × (i ≡ n → ⊥)
-
-pub missed : (n i : ℕ) → Misses n i → n ≤ i
-missed zero i m = omega arith
-missed (suc n) i m = let h = missed n i m.0 in let g : (i ≡ n → ⊥) = m.1 in omega arith
 
 pub past : {b : ℕ} → 0xFF ≤ b → beginning 48 ≡ row_of b
 unfolding row_of

@@ -304,10 +304,8 @@ pub fn run_states(state: u64, s: &[u8]) -> u64
     ensures { result ≡ run_states state s.now }
 {
     let mut state = state;
-    let mut i = 0;
-    while i < s.len() {
-        state = next_state(state, s[i]);
-        i += 1;
+    for b in s {
+        state = next_state(state, *b);
     }
     state
 }

@@ -5,10 +5,12 @@ use mathlib.Core.List.{List}
 use contract.Lifetimes.{Lfts}
 use borrow.Fn.Kinds.{ParamKind, ResultKind, Out, Dens, res_t, ended_of}
 use denote.Triple.Clauses.{AtExit}
+use denote.RattleType.{RattleType}
+use denote.Param.Laws.{Laws}
+use mir.Syntax.{Dict}
+use Rattle.entries.specs.declared.Form
 use Rattle.layouts.specs.Primitive.{Result, ok, refused}
 use Rattle.layouts.specs.Refusal.{refusal}
-use Rattle.views.specs.declared.Fault.{Fault}
-use Rattle.views.specs.declared.Fault.TheVariants.{None, Refused}
 use Rattle.views.specs.Fault.{meaning}
 use Rattle.views.proofs.entry.Reads as entry
 use Rattle.views.proofs.entry.Kinds as entry-kinds
@@ -22,6 +24,9 @@ use Rattle.views.proofs.feature_fault.Reads as feature-fault
 use Rattle.views.proofs.feature_fault.Kinds as feature-fault-kinds
 use Rattle.views.proofs.extract_store_path.Reads as extract-store-path
 use Rattle.views.proofs.extract_store_path.Kinds as extract-store-path-kinds
+use Rattle.std.specs.Prelude as Std
+use Rattle.layouts.specs.declared.Refusal.{Refusal}
+use Rattle.std.specs.Prelude.{Ok, Err}
 
 -- two answers to the same arguments, each with what lies behind the references as the call ends
 abbrev pub Determined : {A : Type 0} (n : ℕ) (ps : List (ParamKind n)) (k : ResultKind n) → Out n ps k → ((κs : Lfts n) → (res_t k κs).Denot → A) → Type 0
@@ -29,23 +34,25 @@ Determined n ps k Post f =
     (κs : Lfts n) (a : Dens κs ps) (r r' : (res_t k κs).Denot) (x x' : AtExit (ended_of n ps k) κs) → Post κs a r x → Post κs a r' x' → f κs r ≡ f κs r'
 
 -- a fault is told by its meaning
-abbrev told_by : Result (Unit {0}) → Fault
-told_by (ok u) = None
-told_by (refused which place stream) = Refused (refusal which place stream)
+abbrev told_by : Result (Unit {0}) → Std.Result (Unit {0}) Refusal
+told_by (ok u) = (Ok tt)
+told_by (refused which place stream) = Err (refusal which place stream)
 
-told_by_lem : (r : Fault) → told_by (meaning r) ≡ r
-told_by_lem None = refl
-told_by_lem (Refused r) = refl
+told_by_lem : (r : Std.Result (Unit {0}) Refusal) → told_by (meaning r) ≡ r
+told_by_lem (Ok tt) = refl
+told_by_lem (Err r) = refl
 
-pub fault_unique : (r r' : Fault) → meaning r ≡ meaning r' → r ≡ r'
+pub fault_unique : (r r' : Std.Result (Unit {0}) Refusal) → meaning r ≡ meaning r' → r ≡ r'
 fault_unique r r' e = sym (told_by_lem r) ∙ ap told_by e ∙ told_by_lem r'
 
 -- a view: its contents, and where it begins
 same_view : {part part' : List ℕ} {at at' : ℕ × ℕ} → part ≡ part' → at.0 ≡ at'.0 → at.1 ≡ at'.1 → ◌≡◌ {A = List ℕ × (ℕ × ℕ)} (part, at) (part', at')
 same_view p q e i = (p i, (q i, e i))
 
-pub part_determined : Determined {A = List ℕ × (ℕ × ℕ)} 3 part-kinds.ps part-kinds.r part.Post (λ κs r. (r.now, r.ref_ptr))
-part_determined κs a r r' x x' p q = same_view (p.0 ∙ sym q.0) (p.1.0 ∙ sym q.1.0) (p.1.1 ∙ sym q.1.1)
+-- in either form
+module _ (T : RattleType) (L : Laws T) (F : Form.Ghosts T.Denot) (d : Dict) where
+  pub part_determined : Determined {A = List ℕ × (ℕ × ℕ)} 3 (part-kinds.ps T L) (part-kinds.r T L) (part.Post T L F d) (λ κs r. (r.now, r.ref_ptr))
+  part_determined κs a r r' x x' p q = same_view (p.0 ∙ sym q.0) (p.1.0 ∙ sym q.1.0) (p.1.1 ∙ sym q.1.1)
 
 pub entry_determined : Determined {A = List ℕ × (ℕ × ℕ)} 2 entry-kinds.ps entry-kinds.r entry.Post (λ κs r. (r.now, r.ref_ptr))
 entry_determined κs a r r' x x' p q = same_view (p.0 ∙ sym q.0) (p.1.0 ∙ sym q.1.0) (p.1.1 ∙ sym q.1.1)

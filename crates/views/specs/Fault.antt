@@ -2,12 +2,13 @@
 use Rattle.std.specs.Prelude.{ℕ, ◌+◌, ◌≡◌}
 use Rattle.layouts.specs.Primitive.{Result, ok, refused}
 use Rattle.layouts.specs.Refusal.{refused_by}
-use Rattle.views.specs.declared.Fault.{Fault}
-use Rattle.views.specs.declared.Fault.TheVariants.{None, Refused}
+use Rattle.std.specs.Prelude as Std
+use Rattle.layouts.specs.declared.Refusal.{Refusal}
+use Rattle.std.specs.Prelude.{Ok, Err}
 
-abbrev pub meaning : Fault → Result (Unit {0})
-meaning None = ok tt
-meaning (Refused r) = refused_by r
+abbrev pub meaning : Std.Result (Unit {0}) Refusal → Result (Unit {0})
+meaning (Ok tt) = ok tt
+meaning (Err r) = refused_by r
 
 abbrev pub fault_of : {A : Type 0} → Result A → Result (Unit {0})
 fault_of (ok a) = ok tt

@@ -1,47 +1,36 @@
 #![tactic(auto)]
 // Views: string number i as a part of the caller's bytes, a handshake's feature as a part of the client's or the daemon's, and the store path test.
-ghost use Rattle.std.specs.Prelude.{◌≤◌, ◌≡◌, length, take};
+ghost use Rattle.std.specs.Prelude.{◌≡◌, take};
 ghost use Rattle.layouts.specs.Primitive.{pick, same};
 ghost use Rattle.layouts.specs.Writers.{view_of, feature_of, part_of, store_directory, is_store_path};
-ghost use Rattle.entries.specs.Entries.{numbers_in, place_of};
+ghost use Rattle.entries.specs.Entries.{place_of};
 ghost use Rattle.views.specs.Fault.{meaning, fault_of, start_of, Begins};
 
-use entries::Located;
+use entries::Form;
 use layouts::Refusal;
-
-const DIRECTORY_LENGTH: usize = 11;
 
 // The directory, a hash of 32 characters and a dash.
 const SHORTEST_PATH: usize = 44;
 
-#[derive(Drop)]
-pub enum Fault {
-    None,
-    Refused(Refusal),
-}
-
 // Why there is no string number i in these bytes, if so.
-pub fn entry_fault(bytes: &[u8], entries: &[u64], i: usize) -> Fault
+pub fn entry_fault(bytes: &[u8], entries: &[u64], i: usize) -> Result<(), Refusal>
     ensures { meaning result ≡ fault_of (view_of bytes.now entries.now i) }
 {
-    let none: [u8; 0] = [];
-    match entries::find(bytes, entries, &none, i) {
-        Located::Part { start: _, len: _ } => Fault::None,
-        Located::Refused(r) => Fault::Refused(r),
-    }
+    entries::find(bytes, entries, i)?;
+    Ok(())
 }
 
 // String number i of s, with entries in either form, and the empty part at the start where it is refused.
-pub fn part<'a, 'b, 'c>(s: &'a [u8], words: &'b [u64], bytes: &'c [u8], i: usize) -> &'a [u8]
-    ensures part { result.now ≡ part_of (view_of s.now (numbers_in words.now bytes.now) i) }
-    ensures place { Begins result.ref_ptr s.entry.ref_ptr (start_of (place_of s.now (numbers_in words.now bytes.now) i)) }
+pub fn part<'a, 'b, T: Form>(s: &'a [u8], entries: &'b [T], i: usize) -> &'a [u8]
+    ensures part { result.now ≡ part_of (view_of s.now (T.numbers entries.now) i) }
+    ensures place { Begins result.ref_ptr s.entry.ref_ptr (start_of (place_of s.now (T.numbers entries.now) i)) }
 {
-    match entries::find(s, words, bytes, i) {
-        Located::Part { start, len } => {
-            let end = start + len;
-            &s[start..end]
+    match entries::find(s, entries, i) {
+        Ok(k) => {
+            let end = k.start + k.len;
+            &s[k.start..end]
         }
-        Located::Refused(_) => &s[..0],
+        Err(_) => &s[..0],
     }
 }
 
@@ -50,8 +39,7 @@ pub fn entry<'a, 'b>(bytes: &'a [u8], entries: &'b [u64], i: usize) -> &'a [u8]
     ensures part { result.now ≡ part_of (view_of bytes.now entries.now i) }
     ensures place { Begins result.ref_ptr bytes.entry.ref_ptr (start_of (place_of bytes.now entries.now i)) }
 {
-    let none: [u8; 0] = [];
-    part(bytes, entries, &none, i)
+    part(bytes, entries, i)
 }
 
 // Why there is no feature number i on that side, if so.
@@ -61,7 +49,7 @@ pub fn feature_fault(
     entries: &[u64],
     of_daemon: bool,
     i: usize,
-) -> Fault
+) -> Result<(), Refusal>
     ensures { meaning result ≡ fault_of (feature_of of_daemon client.now daemon.now entries.now i) }
 {
     if of_daemon {
@@ -92,18 +80,9 @@ pub fn feature<'a, 'b>(
 
 // Does s begin with the store's directory?
 fn in_store(s: &[u8]) -> bool
-    requires { 11 ≤ length s.now }
     ensures { result ≡ same (take 11 s.now) store_directory }
 {
-    let directory = b"/nix/store/";
-    let mut i = 0;
-    while i < DIRECTORY_LENGTH {
-        if s[i] != directory[i] {
-            return false;
-        }
-        i += 1;
-    }
-    true
+    s.starts_with(b"/nix/store/")
 }
 
 // Is s a store path?

@@ -1,8 +1,7 @@
 #![tactic(auto)]
 // Filling: what the pieces of a layout report goes into lent memory, the entries and the payload, in one fold over items. It only copies: lengths, text and room
 // were judged before, and nothing is refused here. All that it asks of a piece is whether the stream has it. Of a layout that was not judged it fills in what
-// stands before the first piece that is not there. What lies past the end of a room falls away; who wants entries as numbers alone, or as bytes alone, lends an
-// empty room for the others.
+// stands before the first piece that is not there. Entries stand in their room as numbers or as bytes. What lies past the end of a room falls away.
 ghost use Rattle.std.specs.Prelude.{◌≡◌, [], ◌+◌, ◌≤◌, length, take, drop, leb};
 ghost use Rattle.std.proofs.lemmas.List.Edits.{sets};
 ghost use Rattle.layouts.specs.Primitive.{number_at, pad_of};
@@ -10,29 +9,19 @@ ghost use Rattle.layouts.specs.Shape.{Target, Tree, ask, say, units};
 ghost use Rattle.layouts.specs.Record.{is_kept};
 ghost use Rattle.layouts.specs.Judge.{entry, entries_of, payload_of};
 ghost use Rattle.table.specs.Table.{role_of};
-ghost use Rattle.writers_output.specs.Numbers.{bytes_of};
 ghost use Rattle.walk_items.specs.Items.{after_number};
 ghost use Rattle.walk_rooms.specs.Rooms.{Put};
 ghost use Rattle.walk_fill.specs.There.{run_there, pieces_there};
 ghost use Rattle.walk_fill.specs.Fill.{rooms, Alike, Lists, Copies, FillsField};
 
-use numbers::Number;
 use walk_items::Layout;
-use walk_strings::More;
+use walk_rooms::Room;
 
-// The places after the entries, in a room of numbers and in one of bytes.
-#[derive(Drop)]
-pub struct Places {
-    pub words: usize,
-    pub bytes: usize,
-}
-
-// Where strings end, with the places after their entries. Where one is not there, that is the stream's end, from which on nothing is.
+// Where strings end, with the place after their entries. Where one is not there, that is the stream's end, from which on nothing is.
 #[derive(Drop)]
 struct Listed {
     at: usize,
-    words: usize,
-    bytes: usize,
+    place: usize,
 }
 
 // Where framed data ends, with the place after its payload.
@@ -42,12 +31,11 @@ struct Copied {
     place: usize,
 }
 
-// Where a field ends, with the places in all rooms.
+// Where a field ends, with the places after its entries and after its payload.
 #[derive(Drop)]
 struct Filled {
     at: usize,
-    words: usize,
-    bytes: usize,
+    place: usize,
     payload: usize,
 }
 
@@ -61,115 +49,71 @@ fn has_contents(s: &[u8], start: usize, n: u64) -> bool
 }
 
 // The entry of a string, if it is kept.
-fn put_kept(
-    role: u8,
-    start: usize,
-    len: usize,
-    words: &mut [u64],
-    word: usize,
-    bytes: &mut [u8],
-    byte: usize,
-) -> Places
-    ensures words { Put words.old word (entry (is_kept (role_of role)) start len []) words.new result.words }
-    ensures bytes { Put bytes.old byte (bytes_of (entry (is_kept (role_of role)) start len [])) bytes.new result.bytes }
+fn put_kept<T: Room>(role: u8, start: usize, len: usize, entries: &mut [T], place: usize) -> usize
+    ensures { Put entries.old place (T.laid (entry (is_kept (role_of role)) start len [])) entries.new result }
 {
     if role < table::KEPT {
-        return Places {
-            words: word,
-            bytes: byte,
-        };
+        return place;
     }
-    Places {
-        words: walk_rooms::put_entry(words, word, start, len),
-        bytes: walk_rooms::put_entry_bytes(bytes, byte, start, len),
-    }
+    T::put_entry(entries, place, start, len)
 }
 
 // A string, whose length is n.
-fn fill_text(
+fn fill_text<T: Room>(
     s: &[u8],
     at: usize,
     n: u64,
     role: u8,
-    words: &mut [u64],
-    word: usize,
-    bytes: &mut [u8],
-    byte: usize,
+    entries: &mut [T],
+    place: usize,
 ) -> Listed
     requires { (at + 8 ≤ length s.now) × (n ≡ number_at s.now at) }
-    ensures law { Lists s.now at (say (role_of role)) words.old word bytes.old byte words.new bytes.new result }
+    ensures law { Lists T.laid s.now at (say (role_of role)) entries.old place entries.new result }
     ensures on { at + 8 ≤ result.at }
 {
     let start = at + 8;
     if has_contents(s, start, n) {
         let len = n as usize;
-        let k = put_kept(role, start, len, words, word, bytes, byte);
         return Listed {
             at: start + len + pieces::padding(len),
-            words: k.words,
-            bytes: k.bytes,
+            place: put_kept(role, start, len, entries, place),
         };
     }
-    Listed {
-        at: s.len(),
-        words: word,
-        bytes: byte,
-    }
+    Listed { at: s.len(), place }
 }
 
 // A series of strings: `count` times `extra` + 1 of them.
-fn fill_series(
+fn fill_series<T: Room>(
     s: &[u8],
     from: usize,
     role: u8,
     extra: u64,
     count: u64,
-    words: &mut [u64],
-    word: usize,
-    bytes: &mut [u8],
-    byte: usize,
+    entries: &mut [T],
+    place: usize,
 ) -> Listed
     requires { from ≤ length s.now }
-    ensures law { Lists s.now from (units (role_of role) extra count) words.old word bytes.old byte words.new bytes.new result }
+    ensures law { Lists T.laid s.now from (units (role_of role) extra count) entries.old place entries.new result }
     ensures on { from ≤ result.at }
 {
     let mut at = from;
     let mut p: u64 = 0;
     let mut l = count;
-    let mut w = word;
-    let mut b = byte;
-    loop {
-        let m = walk_strings::after_next(p, extra, l);
-        match m {
-            More::None => {
-                return Listed {
-                    at,
-                    words: w,
-                    bytes: b,
-                };
-            }
-            More::String { pend, left } => {
-                let d = pieces::number_at(s, at);
-                match d {
-                    Number::Short => {
-                        return Listed {
-                            at: s.len(),
-                            words: w,
-                            bytes: b,
-                        };
-                    }
-                    Number::Value(n) => {
-                        let t = fill_text(s, at, n, role, words, w, bytes, b);
-                        at = t.at;
-                        w = t.words;
-                        b = t.bytes;
-                        p = pend;
-                        l = left;
-                    }
-                }
-            }
-        }
+    let mut e = place;
+    while let Some(more) = walk_strings::after_next(p, extra, l) {
+        let Some(n) = pieces::number_at(s, at) else {
+            return Listed {
+                at: s.len(),
+                place: e,
+            };
+        };
+        let t = fill_text(s, at, n, role, entries, e);
+        at = t.at;
+        e = t.place;
+        p = more.pend;
+        l = more.left;
     }
+    Listed { at, place: e }
 }
 
 // The place after a number.
@@ -178,78 +122,57 @@ fn past_number(s: &[u8], at: usize) -> usize
     ensures law { (i : Target) (k : Unit {0} → Tree) → Alike s.now (run_there (ask i (λ v. k tt)) s.now at) (run_there (k tt) s.now result) }
     ensures on { at ≤ result }
 {
-    let m = pieces::number_at(s, at);
-    match m {
-        Number::Short => s.len(),
-        Number::Value(_) => at + 8,
+    match pieces::number_at(s, at) {
+        None => s.len(),
+        Some(_) => at + 8,
     }
 }
 
 // What follows the number n of a field.
-fn fill_after(
+fn fill_after<T: Room>(
     s: &[u8],
     at: usize,
     kind: u8,
     role: u8,
     n: u64,
-    words: &mut [u64],
-    word: usize,
-    bytes: &mut [u8],
-    byte: usize,
+    entries: &mut [T],
+    place: usize,
 ) -> Listed
     requires { at ≤ length s.now }
-    ensures law { Lists s.now at (after_number kind role n) words.old word bytes.old byte words.new bytes.new result }
+    ensures law { Lists T.laid s.now at (after_number kind role n) entries.old place entries.new result }
     ensures on { at ≤ result.at }
 {
     if kind == table::SET {
-        return fill_series(s, at, role, 0, n, words, word, bytes, byte);
+        return fill_series(s, at, role, 0, n, entries, place);
     }
     if kind == table::PAIRS {
-        return fill_series(s, at, role, 1, n, words, word, bytes, byte);
+        return fill_series(s, at, role, 1, n, entries, place);
     }
     if kind == table::MAYBE {
         if n == 0 {
-            return Listed {
-                at,
-                words: word,
-                bytes: byte,
-            };
+            return Listed { at, place };
         }
         return Listed {
             at: past_number(s, at),
-            words: word,
-            bytes: byte,
+            place,
         };
     }
     if kind == table::TYPED {
         if n == 0 {
             return Listed {
                 at: past_number(s, at),
-                words: word,
-                bytes: byte,
+                place,
             };
         }
-        return fill_series(s, at, table::PASSED, 0, 1, words, word, bytes, byte);
+        return fill_series(s, at, table::PASSED, 0, 1, entries, place);
     }
     if kind == table::POSITION {
         if n == 0 {
-            return Listed {
-                at,
-                words: word,
-                bytes: byte,
-            };
+            return Listed { at, place };
         }
-        return Listed {
-            at: s.len(),
-            words: word,
-            bytes: byte,
-        };
+        return Listed { at: s.len(), place };
     }
-    Listed {
-        at,
-        words: word,
-        bytes: byte,
-    }
+    Listed { at, place }
 }
 
 // A chunk of the stream, into the room from where the last one stopped, and the place after it.
@@ -287,80 +210,67 @@ fn copy_frames(s: &[u8], from: usize, n: u64, payload: &mut [u8], place: usize) 
         let len = size as usize;
         filled = put_chunk(s, start, len, payload, filled);
         at = start + len;
-        let m = pieces::number_at(s, at);
-        match m {
-            Number::Short => {
-                return Copied {
-                    at: s.len(),
-                    place: filled,
-                };
-            }
-            Number::Value(next) => {
-                size = next;
-            }
-        }
+        let Some(next) = pieces::number_at(s, at) else {
+            return Copied {
+                at: s.len(),
+                place: filled,
+            };
+        };
+        size = next;
     }
 }
 
 // A field that begins with the number n.
-fn fill_field(
+fn fill_field<T: Room>(
     s: &[u8],
     at: usize,
     n: u64,
     kind: u8,
     role: u8,
-    words: &mut [u64],
-    word: usize,
-    bytes: &mut [u8],
-    byte: usize,
-    payload: &mut [u8],
+    entries: &mut [T],
     place: usize,
+    payload: &mut [u8],
+    filled: usize,
 ) -> Filled
     requires { (at + 8 ≤ length s.now) × (n ≡ number_at s.now at) }
-    ensures law { FillsField s.now at kind role (rooms words.old word bytes.old byte payload.old place)
-        words.new bytes.new payload.new result }
+    ensures law { FillsField T.laid s.now at kind role (rooms entries.old place payload.old filled)
+        entries.new payload.new result }
     ensures on { at + 8 ≤ result.at }
 {
     if kind == table::FRAMES {
-        let c = copy_frames(s, at, n, payload, place);
+        let c = copy_frames(s, at, n, payload, filled);
         return Filled {
             at: c.at,
-            words: word,
-            bytes: byte,
+            place,
             payload: c.place,
         };
     }
     if kind == table::STR {
-        let t = fill_text(s, at, n, role, words, word, bytes, byte);
+        let t = fill_text(s, at, n, role, entries, place);
         return Filled {
             at: t.at,
-            words: t.words,
-            bytes: t.bytes,
-            payload: place,
+            place: t.place,
+            payload: filled,
         };
     }
-    let r = fill_after(s, at + 8, kind, role, n, words, word, bytes, byte);
+    let r = fill_after(s, at + 8, kind, role, n, entries, place);
     Filled {
         at: r.at,
-        words: r.words,
-        bytes: r.bytes,
-        payload: place,
+        place: r.place,
+        payload: filled,
     }
 }
 
-// What the layout reports that begins at a place of the stream: entries from a place of their rooms on, the payload at the start of its room.
-pub fn fill(
+// What the layout reports that begins at a place of the stream: entries from a place of their room on, the payload at the start of its room.
+pub fn fill<T: Room>(
     s: &[u8],
     from: usize,
     layout: Layout,
-    words: &mut [u64],
-    word: usize,
-    bytes: &mut [u8],
-    byte: usize,
+    entries: &mut [T],
+    place: usize,
     payload: &mut [u8],
-) -> Places
-    ensures words { Put words.old word (entries_of (pieces_there layout s.now from)) words.new result.words }
-    ensures bytes { Put bytes.old byte (bytes_of (entries_of (pieces_there layout s.now from))) bytes.new result.bytes }
+) -> usize
+    ensures entries { Put entries.old place (T.laid (entries_of (pieces_there layout s.now from))) entries.new result }
     ensures payload { payload.new ≡ sets payload.old 0 (payload_of s.now (pieces_there layout s.now from)) }
 {
     let f = walk_items::begin(layout);
@@ -369,8 +279,7 @@ pub fn fill(
     let mut reps = f.reps;
     let mut body = f.body;
     let mut group = f.group;
-    let mut w = word;
-    let mut b = byte;
+    let mut e = place;
     let mut p: usize = 0;
     loop {
         let f = walk_items::next(layout, pc, reps, body, group);
@@ -379,55 +288,43 @@ pub fn fill(
         body = f.body;
         group = f.group;
         if f.kind == table::END {
-            return Places { words: w, bytes: b };
+            return e;
         }
         if f.kind != walk_items::QUIET {
-            let m = pieces::number_at(s, at);
-            match m {
-                Number::Short => {
-                    return Places { words: w, bytes: b };
-                }
-                Number::Value(n) => {
-                    if walk_items::QUIET < f.kind {
-                        at = at + 8;
-                        reps = walk_items::times(f.kind, n);
-                    } else {
-                        let k = fill_field(
-                            s, at, n, f.kind, f.role, words, w, bytes, b, payload, p,
-                        );
-                        at = k.at;
-                        w = k.words;
-                        b = k.bytes;
-                        p = k.payload;
-                    }
-                }
+            let Some(n) = pieces::number_at(s, at) else {
+                return e;
+            };
+            if walk_items::QUIET < f.kind {
+                at = at + 8;
+                reps = walk_items::times(f.kind, n);
+            } else {
+                let k = fill_field(s, at, n, f.kind, f.role, entries, e, payload, p);
+                at = k.at;
+                e = k.place;
+                p = k.payload;
             }
         }
     }
 }
 
 // The entries alone.
-pub fn fill_entries(
+pub fn fill_entries<T: Room>(
     s: &[u8],
     from: usize,
     layout: Layout,
-    words: &mut [u64],
-    word: usize,
-    bytes: &mut [u8],
-    byte: usize,
-) -> Places
-    ensures words { Put words.old word (entries_of (pieces_there layout s.now from)) words.new result.words }
-    ensures bytes { Put bytes.old byte (bytes_of (entries_of (pieces_there layout s.now from))) bytes.new result.bytes }
+    entries: &mut [T],
+    place: usize,
+) -> usize
+    ensures { Put entries.old place (T.laid (entries_of (pieces_there layout s.now from))) entries.new result }
 {
     let mut none: [u8; 0] = [];
-    fill(s, from, layout, words, word, bytes, byte, &mut none)
+    fill(s, from, layout, entries, place, &mut none)
 }
 
 // The payload alone.
 pub fn fill_payload(s: &[u8], from: usize, layout: Layout, payload: &mut [u8])
     ensures { payload.new ≡ sets payload.old 0 (payload_of s.now (pieces_there layout s.now from)) }
 {
-    let mut words: [u64; 0] = [];
-    let mut bytes: [u8; 0] = [];
-    fill(s, from, layout, &mut words, 0, &mut bytes, 0, payload);
+    let mut none: [u64; 0] = [];
+    fill(s, from, layout, &mut none, 0, payload);
 }

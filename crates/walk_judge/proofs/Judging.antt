@@ -23,10 +23,11 @@ use Rattle.walk_items.proofs.Measure.{read_less}
 use Rattle.walk_take.specs.Taking.{ahead}
 use Rattle.walk_take.proofs.Pieces.{nothing_in}
 use Rattle.walk_judge.specs.declared.Answer.{Answer}
-use Rattle.walk_judge.specs.declared.Fed.{Fed}
-use Rattle.walk_judge.specs.declared.Fed.TheVariants as F
 use Rattle.walk_judge.specs.Judged.{gathered, answer_as, ended_as, fed_to, fed_in, Feeds, FedTook}
 use Rattle.walk_judge.proofs.Notes.{noted_none, noted_number, noted_flag, noted_count, noted_presence, is_true_lem}
+use Rattle.walk_judge.specs.declared.Fed.{Fed}
+use Rattle.std.specs.Prelude as Std
+use Rattle.std.specs.Prelude.{Ok, Err}
 
 abbrev pub to_come : List ℕ → Version → (at pc reps body i : ℕ) → Pieces
 to_come s ver at pc reps body i = run (rest_tree ver pc reps body i tt) s at
@@ -54,12 +55,12 @@ module _ (s : List ℕ) (slots room : ℕ) (ver : Version) (at pc reps body x : 
   pub going_quiet : f.kind ≡ 16 → Going s slots room o v got w (to_come s ver at f.pc f.reps f.body f.group)
   going_quiet k = by_item _ (quiet_item ver f k)
 
-  module _ (w' : List ℕ) (k : Fed) (h : Feeds s slots room at got.entries got.payload f w w' k) where
-    pub going_refused : (r : Refusal) (a : Answer) → k ≡ F.Refused r → a ≡ answer_as (refused_by r) → a ≡ answer_as (ended_as o)
+  module _ (w' : List ℕ) (k : Std.Result Fed Refusal) (h : Feeds s slots room at got.entries got.payload f w w' k) where
+    pub going_refused : (r : Refusal) (a : Answer) → k ≡ Err r → a ≡ answer_as (refused_by r) → a ≡ answer_as (ended_as o)
     going_refused r a q e =
         e ∙ ap (λ (y : Result Ended). answer_as (ended_as y)) (ap (fed_to s slots room ver got f) (sym q) ∙ sym (h.judges ver got refl refl) ∙ (by_item _ refl).judges)
 
-    pub going_on : (a n p r target x : ℕ) → k ≡ F.Past a n p r target x → (y : Record) → y ≡ noted (with_payload (with_entries got n) p) (target_of target) x → y.entries ≡ n
+    pub going_on : (a n p r target x : ℕ) → k ≡ Ok (record { at = a; entries = n; payload = p; reps = r; target = target; value = x }) → (y : Record) → y ≡ noted (with_payload (with_entries got n) p) (target_of target) x → y.entries ≡ n
         → Going s slots room o v y w' (to_come s ver a f.pc r f.body f.group)
     going_on a n p r target x q y e z =
         let b : judge_of s slots room y (to_come s ver a f.pc r f.body f.group) ≡ judge_of s slots room got (run (item_tree ver f) s at) =
@@ -99,5 +100,5 @@ module _ (ns cs : List ℕ) (b : Bool) (target v : ℕ) where
     in_presence l n p = noted_presence (gathered ns cs b n p) target v (not (eqb v 0)) z l (is_true_lem v)
 
 -- ---- the measure
-pub fed_less : (s : List ℕ) (at pc reps i : ℕ) (k : Fed) (a n p r target v pc' i' : ℕ) → FedTook s at k → k ≡ F.Past a n p r target v → r < 18446744073709551616 → fuel_of s a pc' r i' < fuel_of s at pc reps i
+pub fed_less : (s : List ℕ) (at pc reps i : ℕ) (k : Std.Result Fed Refusal) (a n p r target v pc' i' : ℕ) → FedTook s at k → k ≡ Ok (record { at = a; entries = n; payload = p; reps = r; target = target; value = v }) → r < 18446744073709551616 → fuel_of s a pc' r i' < fuel_of s at pc reps i
 fed_less s at pc reps i k a n p r target v pc' i' h q b = read_less s at pc reps i a r pc' i' (subst (FedTook s at) q h) b

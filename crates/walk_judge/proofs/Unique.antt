@@ -6,10 +6,6 @@ use contract.Lifetimes.{Lfts}
 use borrow.Fn.Kinds.{Dens, ended_of}
 use denote.Triple.Clauses.{AtExit}
 use Rattle.layouts.specs.declared.Record.{Record}
-use Rattle.walk_judge.specs.declared.Said.{Said}
-use Rattle.walk_judge.specs.declared.Said.TheVariants as S
-use Rattle.walk_judge.specs.declared.Outcome.{Outcome}
-use Rattle.walk_judge.specs.declared.Outcome.TheVariants.{Fine, Refused}
 use Rattle.walk_judge.specs.Judged.{answer_of, window_after}
 use Rattle.walk_judge.specs.declared.Answer.{Answer}
 use Rattle.walk_judge.proofs.empty.Reads as empty
@@ -24,6 +20,9 @@ use Rattle.walk_judge.proofs.judge_record.Reads as judge-record
 use Rattle.walk_judge.proofs.judge_record.Kinds as judge-record-kinds
 use Rattle.walk_judge.proofs.refused_answer.Reads as refused_answer
 use Rattle.walk_judge.proofs.refused_answer.Kinds as refused-answer-kinds
+use Rattle.walk_judge.specs.declared.Said.{Said}
+use Rattle.layouts.specs.declared.Refusal.{Refusal}
+use Rattle.std.specs.Prelude.{Ok, Err, Result}
 
 pub empty_unique : (κs : Lfts 0) (a : Dens κs empty-kinds.ps) (r r' : Record) (x x' : AtExit (ended_of 0 empty-kinds.ps empty-kinds.r) κs)
     → empty.Post κs a r x → empty.Post κs a r' x' → r ≡ r'
@@ -34,23 +33,23 @@ pub refused_answer_unique : (κs : Lfts 0) (a : Dens κs refused-answer-kinds.ps
 refused_answer_unique κs a r r' x x' p q = p ∙ sym q
 
 -- what was said, with the numbers and counts beside it, is told by the answer that they make
-abbrev said_by : Outcome → Answer → Said
-said_by Fine a = S.Fine a.kind a.ends a.ends2 a.found.entries a.found.payload a.found.present
-said_by (Refused r) a = S.Refused r
+abbrev said_by : Result (Unit {0}) Refusal → Answer → Result Said Refusal
+said_by (Ok tt) a = Ok (record { kind = a.kind; ends = a.ends; ends2 = a.ends2; entries = a.found.entries; payload = a.found.payload; present = a.found.present })
+said_by (Err r) a = Err r
 
-said_back : (r : Said) (ns cs : List ℕ) → said_by (answer_of r ns cs).outcome (answer_of r ns cs) ≡ r
-said_back (S.Fine kind ends ends2 n p b) ns cs = refl
-said_back (S.Refused x) ns cs = refl
+said_back : (r : Result Said Refusal) (ns cs : List ℕ) → said_by (answer_of r ns cs).outcome (answer_of r ns cs) ≡ r
+said_back (Ok k) ns cs = refl
+said_back (Err x) ns cs = refl
 
-numbers_back : (r : Said) (ns cs : List ℕ) → (answer_of r ns cs).found.numbers ≡ ns
-numbers_back (S.Fine kind ends ends2 n p b) ns cs = refl
-numbers_back (S.Refused x) ns cs = refl
+numbers_back : (r : Result Said Refusal) (ns cs : List ℕ) → (answer_of r ns cs).found.numbers ≡ ns
+numbers_back (Ok k) ns cs = refl
+numbers_back (Err x) ns cs = refl
 
-counts_back : (r : Said) (ns cs : List ℕ) → (answer_of r ns cs).found.counts ≡ cs
-counts_back (S.Fine kind ends ends2 n p b) ns cs = refl
-counts_back (S.Refused x) ns cs = refl
+counts_back : (r : Result Said Refusal) (ns cs : List ℕ) → (answer_of r ns cs).found.counts ≡ cs
+counts_back (Ok k) ns cs = refl
+counts_back (Err x) ns cs = refl
 
-module _ (r r' : Said) (ns cs ns' cs' : List ℕ) (e : answer_of r ns cs ≡ answer_of r' ns' cs') where
+module _ (r r' : Result Said Refusal) (ns cs ns' cs' : List ℕ) (e : answer_of r ns cs ≡ answer_of r' ns' cs') where
   pub said_told : (r ≡ r') × (ns ≡ ns') × (cs ≡ cs')
   said_told = (
     sym (said_back r ns cs) ∙ ap (λ (a : Answer). said_by a.outcome a) e ∙ said_back r' ns' cs',
@@ -58,7 +57,7 @@ module _ (r r' : Said) (ns cs ns' cs' : List ℕ) (e : answer_of r ns cs ≡ ans
     sym (counts_back r ns cs) ∙ ap (λ (a : Answer). a.found.counts) e ∙ counts_back r' ns' cs',
   )
 
-pub refuse_unique : (κs : Lfts 2) (a : Dens κs refuse-kinds.ps) (r r' : Said) (x x' : AtExit (ended_of 2 refuse-kinds.ps refuse-kinds.r) κs)
+pub refuse_unique : (κs : Lfts 2) (a : Dens κs refuse-kinds.ps) (r r' : Result Said Refusal) (x x' : AtExit (ended_of 2 refuse-kinds.ps refuse-kinds.r) κs)
     → refuse.Post κs a r x → refuse.Post κs a r' x' → (r ≡ r') × (x.1.0.now ≡ x'.1.0.now) × (x.1.1.0.now ≡ x'.1.1.0.now)
 refuse_unique κs a r r' x x' p q = said_told r r' x.1.0.now x.1.1.0.now x'.1.0.now x'.1.1.0.now (p.1 ∙ sym q.1)
 
@@ -75,10 +74,10 @@ counts_at κs x = x.1.1.1.1.1.1.1.1.1.0.now
 abbrev pub window_at : (κs : Lfts 4) → Exits κs → List ℕ
 window_at κs x = x.1.1.1.1.1.1.1.1.1.1.0.now
 
-same_window : (w : List ℕ) (n : ℕ) (es : List ℕ) (r r' : Said) → r ≡ r' → window_after r w n es ≡ window_after r' w n es
-same_window w n es r r' e = ap (λ (y : Said). window_after y w n es) e
+same_window : (w : List ℕ) (n : ℕ) (es : List ℕ) (r r' : Result Said Refusal) → r ≡ r' → window_after r w n es ≡ window_after r' w n es
+same_window w n es r r' e = ap (λ (y : Result Said Refusal). window_after y w n es) e
 
-pub judge_unique : (κs : Lfts 4) (a : Dens κs judge-kinds.ps) (r r' : Said) (x x' : Exits κs)
+pub judge_unique : (κs : Lfts 4) (a : Dens κs judge-kinds.ps) (r r' : Result Said Refusal) (x x' : Exits κs)
     → judge.Post κs a r x → judge.Post κs a r' x'
     → (r ≡ r') × (numbers_at κs x ≡ numbers_at κs x') × (counts_at κs x ≡ counts_at κs x') × (window_at κs x ≡ window_at κs x')
 judge_unique κs a r r' x x' p q =

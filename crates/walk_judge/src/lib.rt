@@ -1,32 +1,24 @@
 #![tactic(auto)]
 // The judge: a fold over items that ends in the record of a layout, or in the first refusal. It writes no lent room but that of the record's numbers. What an
 // item has is judged by `walk_take`.
-ghost use Rattle.std.specs.Prelude.{◌≡◌, ℕ, ◌≤◌};
+ghost use Rattle.std.specs.Prelude.{◌≡◌, ℕ, ◌≤◌, Err};
 ghost use Rattle.layouts.specs.Refusal.{refused_by};
 ghost use Rattle.layouts.specs.Shape.{truth};
 ghost use Rattle.layouts.specs.Record.{blank, noted};
 ghost use Rattle.layouts.specs.Judge.{entries_of};
 ghost use Rattle.table.specs.Table.{target_of};
 ghost use Rattle.walk_take.specs.Taking.{Takes, SeriesFrom};
-ghost use Rattle.walk_judge.specs.declared.Said.TheVariants as S;
 ghost use Rattle.walk_judge.specs.Judged.{gathered, answer_of, answer_as, Feeds, FedTook, window_after, judged_as};
 ghost use Rattle.walk_items.specs.Items.{pieces_of, target_for, after_number};
 
 use layouts::{Record, Refusal};
-use numbers::Number;
 use walk_items::{Item, Layout};
 use walk_take::Series;
-
-#[derive(Clone, Copy)]
-pub enum Outcome {
-    Fine,
-    Refused(Refusal),
-}
 
 // What a call answers: its kind, where it ended on the stream (a handshake on both), and the record. On a refusal all but the outcome is blank.
 #[derive(Drop)]
 pub struct Answer {
-    pub outcome: Outcome,
+    pub outcome: Result<(), Refusal>,
     pub kind: u64,
     pub ends: usize,
     pub ends2: usize,
@@ -35,30 +27,24 @@ pub struct Answer {
 
 // An answer without its numbers and counts, which stand beside it; a refusal leaves none of them.
 #[derive(Clone, Copy)]
-pub enum Said {
-    Fine {
-        kind: u64,
-        ends: usize,
-        ends2: usize,
-        entries: usize,
-        payload: usize,
-        present: bool,
-    },
-    Refused(Refusal),
+pub struct Said {
+    pub kind: u64,
+    pub ends: usize,
+    pub ends2: usize,
+    pub entries: usize,
+    pub payload: usize,
+    pub present: bool,
 }
 
 // What an item makes of the state: where it ends, the entries and the payload then, how often the body comes again, and a number with its target.
-#[derive(Drop)]
-enum Fed {
-    Past {
-        at: usize,
-        entries: usize,
-        payload: usize,
-        reps: u64,
-        target: usize,
-        value: u64,
-    },
-    Refused(Refusal),
+#[derive(Clone, Copy)]
+struct Fed {
+    at: usize,
+    entries: usize,
+    payload: usize,
+    reps: u64,
+    target: usize,
+    value: u64,
 }
 
 pub fn empty() -> Record
@@ -78,7 +64,7 @@ pub fn refused_answer(refusal: Refusal) -> Answer
     ensures { result ≡ answer_as (refused_by refusal) }
 {
     Answer {
-        outcome: Outcome::Refused(refusal),
+        outcome: Err(refusal),
         kind: 0,
         ends: 0,
         ends2: 0,
@@ -105,7 +91,7 @@ fn judge_after(
     slots: usize,
     n: usize,
     window: &mut [u64; 16],
-) -> Series
+) -> Result<Series, Refusal>
     requires { 8 ≤ at }
     ensures law { Takes s.now slots at (after_number kind role x) window.old n window.new result }
     ensures on { SeriesFrom at result }
@@ -118,7 +104,7 @@ fn judge_after(
     }
     if kind == table::MAYBE {
         if x == 0 {
-            return Series::Past { at, entries: n };
+            return Ok(Series { at, entries: n });
         }
         return walk_take::drop_number(s, at, n);
     }
@@ -130,11 +116,11 @@ fn judge_after(
     }
     if kind == table::POSITION {
         if x == 0 {
-            return Series::Past { at, entries: n };
+            return Ok(Series { at, entries: n });
         }
-        return Series::Refused(layouts::refuse(layouts::NONZERO_POSITION, at - 8));
+        return Err(layouts::refuse(layouts::NONZERO_POSITION, at - 8));
     }
-    Series::Past { at, entries: n }
+    Ok(Series { at, entries: n })
 }
 
 // The flag of a maybe, the type of a typed field and a position go nowhere.
@@ -158,43 +144,33 @@ fn feed_number(
     n: usize,
     p: usize,
     window: &mut [u64; 16],
-) -> Fed
+) -> Result<Fed, Refusal>
     requires { (f.kind ≡ 0 → ⊥) × (f.kind ≡ 16 → ⊥) × (f.kind ≡ 2 → ⊥) × (f.kind ≡ 5 → ⊥) }
     ensures law { (room : ℕ) → Feeds s.now slots room at n p f window.old window.new result }
     ensures on { FedTook s.now at result }
 {
-    let m = pieces::number_at(s, at);
-    match m {
-        Number::Short => Fed::Refused(layouts::refuse(layouts::CUT_SHORT, at)),
-        Number::Value(x) => {
-            let kind = f.kind;
-            let on = at + 8;
-            if walk_items::QUIET < kind {
-                let times = walk_items::times(kind, x);
-                return Fed::Past {
-                    at: on,
-                    entries: n,
-                    payload: p,
-                    reps: times,
-                    target: f.target as usize,
-                    value: x,
-                };
-            }
-            let target = target_for(kind, f.target);
-            let k = judge_after(s, on, kind, f.role, x, slots, n, window);
-            match k {
-                Series::Refused(r) => Fed::Refused(r),
-                Series::Past { at, entries } => Fed::Past {
-                    at,
-                    entries,
-                    payload: p,
-                    reps: f.reps,
-                    target: target as usize,
-                    value: x,
-                },
-            }
-        }
+    let x = pieces::number_or_cut(s, at)?;
+    let kind = f.kind;
+    let on = at + 8;
+    if walk_items::QUIET < kind {
+        return Ok(Fed {
+            at: on,
+            entries: n,
+            payload: p,
+            reps: walk_items::times(kind, x),
+            target: f.target as usize,
+            value: x,
+        });
     }
+    let k = judge_after(s, on, kind, f.role, x, slots, n, window)?;
+    Ok(Fed {
+        at: k.at,
+        entries: k.entries,
+        payload: p,
+        reps: f.reps,
+        target: target_for(kind, f.target) as usize,
+        value: x,
+    })
 }
 
 // An item that reads something, with n entries and p bytes of payload before it.
@@ -207,78 +183,57 @@ fn feed(
     n: usize,
     p: usize,
     window: &mut [u64; 16],
-) -> Fed
+) -> Result<Fed, Refusal>
     requires { (f.kind ≡ 0 → ⊥) × (f.kind ≡ 16 → ⊥) }
     ensures law { Feeds s.now slots room at n p f window.old window.new result }
     ensures on { FedTook s.now at result }
 {
     let kind = f.kind;
     if kind == table::STR {
-        let k = walk_take::judge_text(s, at, f.role, slots, n, window);
-        match k {
-            Series::Refused(r) => {
-                return Fed::Refused(r);
-            }
-            Series::Past { at, entries } => {
-                return Fed::Past {
-                    at,
-                    entries,
-                    payload: p,
-                    reps: f.reps,
-                    target: 0,
-                    value: 0,
-                };
-            }
-        }
+        let k = walk_take::judge_text(s, at, f.role, slots, n, window)?;
+        return Ok(Fed {
+            at: k.at,
+            entries: k.entries,
+            payload: p,
+            reps: f.reps,
+            target: 0,
+            value: 0,
+        });
     }
     if kind == table::FRAMES {
-        let k = walk_take::judge_frames(s, at, room, p);
-        match k {
-            Series::Refused(r) => {
-                return Fed::Refused(r);
-            }
-            Series::Past { at, entries } => {
-                return Fed::Past {
-                    at,
-                    entries: n,
-                    payload: entries,
-                    reps: f.reps,
-                    target: 0,
-                    value: 0,
-                };
-            }
-        }
+        let k = walk_take::judge_frames(s, at, room, p)?;
+        return Ok(Fed {
+            at: k.at,
+            entries: n,
+            payload: k.entries,
+            reps: f.reps,
+            target: 0,
+            value: 0,
+        });
     }
     feed_number(s, at, f, slots, n, p, window)
 }
 
 // What is said, with the numbers and counts beside it, as one answer.
-pub fn answer_of(said: Said, numbers: [u64; 12], counts: [u64; 3]) -> Answer
+pub fn answer_of(said: Result<Said, Refusal>, numbers: [u64; 12], counts: [u64; 3]) -> Answer
     ensures { result ≡ answer_of said numbers counts }
 {
     match said {
-        Said::Fine {
-            kind,
-            ends,
-            ends2,
-            entries,
-            payload,
-            present,
-        } => Answer {
-            outcome: Outcome::Fine,
-            kind,
-            ends,
-            ends2,
+        Ok(k) => Answer {
+            outcome: Ok(()),
+            kind: k.kind,
+            ends: k.ends,
+            ends2: k.ends2,
             found: Record {
                 numbers,
                 counts,
-                present,
-                entries,
-                payload,
+                present: k.present,
+                entries: k.entries,
+                payload: k.payload,
             },
         },
-        Said::Refused(refusal) => Answer {
-            outcome: Outcome::Refused(refusal),
+        Err(refusal) => Answer {
+            outcome: Err(refusal),
             kind: 0,
             ends: 0,
             ends2: 0,
@@ -322,13 +277,17 @@ fn note(
 }
 
 // A refusal, with numbers and counts that say nothing.
-pub fn refuse(refusal: Refusal, numbers: &mut [u64; 12], counts: &mut [u64; 3]) -> Said
-    ensures said { result ≡ S.Refused refusal }
+pub fn refuse(
+    refusal: Refusal,
+    numbers: &mut [u64; 12],
+    counts: &mut [u64; 3],
+) -> Result<Said, Refusal>
+    ensures said { result ≡ Err refusal }
     ensures answer { answer_of result numbers.new counts.new ≡ answer_as (refused_by refusal) }
 {
     *numbers = [0u64; 12];
     *counts = [0u64; 3];
-    Said::Refused(refusal)
+    Err(refusal)
 }
 
 // The layout that begins at a place of the stream, with the record so far, whose numbers and counts are written in place. There is room for so many entries
@@ -345,7 +304,7 @@ pub fn judge(
     numbers: &mut [u64; 12],
     counts: &mut [u64; 3],
     window: &mut [u64; 16],
-) -> Said
+) -> Result<Said, Refusal>
     ensures answer { answer_of result numbers.new counts.new
         ≡ judged_as layout s.now from slots room (gathered numbers.old counts.old there entries payload) }
     ensures window { window.new ≡ window_after result window.old entries (entries_of (pieces_of layout s.now from)) }
@@ -365,37 +324,29 @@ pub fn judge(
         body = f.body;
         group = f.group;
         if f.kind == table::END {
-            return Said::Fine {
+            return Ok(Said {
                 kind: 0,
                 ends: at,
                 ends2: 0,
                 entries: n,
                 payload: p,
                 present,
-            };
+            });
         }
         if f.kind == walk_items::QUIET {
             reps = f.reps;
         } else {
-            let k = feed(s, at, f, slots, room, n, p, window);
-            match k {
-                Fed::Refused(r) => {
+            match feed(s, at, f, slots, room, n, p, window) {
+                Err(r) => {
                     *window = [0u64; 16];
                     return refuse(r, numbers, counts);
                 }
-                Fed::Past {
-                    at: next,
-                    entries: more,
-                    payload: total,
-                    reps: times,
-                    target,
-                    value,
-                } => {
-                    present = note(numbers, counts, present, target, value);
-                    at = next;
-                    n = more;
-                    p = total;
-                    reps = times;
+                Ok(k) => {
+                    present = note(numbers, counts, present, k.target, k.value);
+                    at = k.at;
+                    n = k.entries;
+                    p = k.payload;
+                    reps = k.reps;
                 }
             }
         }

@@ -1,5 +1,5 @@
 -- A number, a string, framed data, what follows a number and a whole field, passed.
-use Prim.Native.Nat.{ℕ, ◌+◌, ◌-◌, ◌≤◌}
+use Prim.Native.Nat.{ℕ, ◌+◌, ◌-◌, ◌≤◌, ◌<◌}
 use mathlib.Core.Path.{◌≡◌, refl, ◌∙◌, ap}
 use mathlib.Core.List.{List}
 use lib.ListN.{length}
@@ -9,51 +9,47 @@ use Rattle.layouts.specs.declared.Refusal.{Refusal}
 use Rattle.layouts.specs.Refusal.{plain}
 use Rattle.layouts.specs.Shape.{Target, dropped, Role, passed, Tree, ask, say, frames, fail, strings, field}
 use Rattle.layouts.specs.Pieces.{text_of, chunk_of, run, skip_of}
-use Rattle.layouts.specs.Calls.{peek_number}
-use Rattle.numbers.specs.declared.Number.{Number}
-use Rattle.numbers.specs.declared.Number.TheVariants.{Value, Short}
-use Rattle.pieces.specs.declared.Text as T
-use Rattle.pieces.specs.declared.Text.TheVariants.{Whole}
-use Rattle.pieces.specs.declared.Chunk as C
-use Rattle.pieces.specs.declared.Chunk.TheVariants.{Part, Last, Wrong}
-use Rattle.pieces.specs.Pieces.{num_read, text_found, chunk_found}
-use Rattle.pieces.proofs.Numbers.{number_known}
+use Rattle.layouts.proofs.Steps.{ask_short, ask_value}
+use Rattle.pieces.specs.Pieces.{text_found, chunk_found}
 use Rattle.pieces.proofs.Found.{chunk_read, wrong_plain}
-use Rattle.pieces.proofs.Nodes.{ask_cut, ask_found, whole_found, frames_by, frames_as, last_found, part_found}
+use Rattle.pieces.proofs.Nodes.{whole_found, frames_by, frames_as, last_found, part_found}
 use Rattle.table.specs.Table.{role_of, target_of, what_of}
-use Rattle.walk_strings.specs.declared.Passed.{Passed}
-use Rattle.walk_strings.specs.declared.Passed.TheVariants as P
 use Rattle.walk_strings.specs.Strings.{series, Passes, PastFrom}
 use Rattle.walk_items.specs.Items.{target_for, after_number}
 use Rattle.walk_items.proofs.Fields.{is_text_lem, is_framed, is_number, after_set, after_pairs, after_false, after_true, after_type_0, after_typed, after_zero, after_position, after_nothing}
 use Rattle.walk_pass.specs.Passing.{Took}
+use Rattle.pieces.specs.declared.Text as T
+use Rattle.pieces.specs.declared.Chunk as C
+use Rattle.pieces.specs.declared.Chunk.TheVariants.{Last}
+use Rattle.pieces.specs.declared.Chunk.TheVariants.{Part}
+use Rattle.pieces.specs.declared.Text.TheVariants.{Whole}
+use Rattle.std.specs.Prelude.{Ok, Err, Result}
 
 module _ (s : List ℕ) (at : ℕ) where
-  pub took_past : (r : Passed) → Took s at r → PastFrom at r
-  took_past (P.Past a) h = omega (arith, h)
-  took_past (P.Refused x) h = tt
+  pub took_past : (r : Result ℕ Refusal) → Took s at r → PastFrom at r
+  took_past (Ok a) h = omega (arith, h)
+  took_past (Err x) h = tt
 
   -- the same tree
-  passes_as : (t u : (Unit {0} → Tree) → Tree) (r : Passed) → ((k : Unit {0} → Tree) → t k ≡ u k) → Passes s at u r → Passes s at t r
+  passes_as : (t u : (Unit {0} → Tree) → Tree) (r : Result ℕ Refusal) → ((k : Unit {0} → Tree) → t k ≡ u k) → Passes s at u r → Passes s at t r
   passes_as t u r e h k = ap (λ (x : Tree). skip_of (run x s at)) (e k) ∙ h k
 
   -- ---- a number
-  module _ (m : Number) (e : num_read m ≡ peek_number s at) where
-    pub cut_passes : m ≡ Short → (x : Refusal) → x ≡ plain 1 at → (i : Target) (j : (Unit {0} → Tree) → ℕ → Tree) → Passes s at (λ k. ask i (j k)) (P.Refused x)
+  pub cut_passes : (x : Refusal) → (length s < at + 8) × (x ≡ plain 1 at) → (i : Target) (j : (Unit {0} → Tree) → ℕ → Tree) → Passes s at (λ k. ask i (j k)) (Err x)
+  unfolding skip_of
+  cut_passes x known i j k = rw known.1 (ap skip_of (ask_short s at _ refl i (j k) known.0))
+
+  module _ (n : ℕ) (known : (at + 8 ≤ length s) × (n ≡ number_at s at)) where
+    pub value_passes : (i : Target) (j : (Unit {0} → Tree) → ℕ → Tree) (r : Result ℕ Refusal) → Passes s (at + 8) (λ k. j k n) r → Passes s at (λ k. ask i (j k)) r
     unfolding skip_of
-    cut_passes q x p i j k = rw p (ap skip_of (ask_cut s at m e q i (j k)))
+    value_passes i j r h k = ap skip_of (ask_value s at n known.1 i (j k) known.0) ∙ h k
 
-    module _ (n : ℕ) (q : m ≡ Value n) where
-      pub value_passes : (i : Target) (j : (Unit {0} → Tree) → ℕ → Tree) (r : Passed) → Passes s (at + 8) (λ k. j k n) r → Passes s at (λ k. ask i (j k)) r
-      unfolding skip_of
-      value_passes i j r h k = ap skip_of (ask_found s at m e n q i (j k)) ∙ h k
-
-      pub value_took : (r : Passed) → PastFrom (at + 8) r → Took s at r
-      value_took (P.Past a) h = (h, (number_known s at m e n q).0)
-      value_took (P.Refused x) h = tt
+    pub value_took : (r : Result ℕ Refusal) → PastFrom (at + 8) r → Took s at r
+    value_took (Ok a) h = (h, known.0)
+    value_took (Err x) h = tt
 
   -- ---- a string
-  pub whole_took : (m : T.Text) → m ≡ text_found (text_of (length s) (number_at s at) at) → (start len next : ℕ) → m ≡ Whole start len next → Took s at (P.Past next)
+  pub whole_took : (m : Result T.Text Refusal) → m ≡ text_found (text_of (length s) (number_at s at) at) → (start len next : ℕ) → m ≡ Ok (Whole start len next) → Took s at (Ok next)
   whole_took m e start len next q = let h = whole_found s at m e start len next q in (h.0, omega (arith, h))
 
 -- ---- framed data
@@ -64,29 +60,29 @@ pub record Framing (s : List ℕ) (from at : ℕ) : Type 0 where
 pub framing_start : (s : List ℕ) (from : ℕ) → Framing s from from
 framing_start s from = record { on = omega arith; same = λ k. refl }
 
-module _ (s : List ℕ) (from at : ℕ) (g : Framing s from at) (m : C.Chunk) (e : m ≡ chunk_found (chunk_of (length s) (number_at s at) at)) where
-  framed : (y : C.Chunk) → m ≡ y → (k : Unit {0} → Tree) → skip_of (run (frames k) s from) ≡ skip_of (frames_by s at k (chunk_read y))
+module _ (s : List ℕ) (from at : ℕ) (g : Framing s from at) (m : Result C.Chunk Refusal) (e : m ≡ chunk_found (chunk_of (length s) (number_at s at) at)) where
+  framed : (y : Result C.Chunk Refusal) → m ≡ y → (k : Unit {0} → Tree) → skip_of (run (frames k) s from) ≡ skip_of (frames_by s at k (chunk_read y))
   framed y q k = g.same k ∙ ap skip_of (frames_as s at m e y q k)
 
-  pub framing_wrong : (x : Refusal) → m ≡ Wrong x → Passes s from frames (P.Refused x) × Took s from (P.Refused x)
+  pub framing_wrong : (x : Refusal) → m ≡ Err x → Passes s from frames (Err x) × Took s from (Err x)
   unfolding skip_of
-  framing_wrong x q = (λ k. rw (wrong_plain s at m e x q) (framed (Wrong x) q k), tt)
+  framing_wrong x q = (λ k. rw (wrong_plain s at m e x q) (framed (Err x) q k), tt)
 
-  pub framing_last : (next : ℕ) → m ≡ Last next → Passes s from frames (P.Past next) × Took s from (P.Past next)
+  pub framing_last : (next : ℕ) → m ≡ Ok (Last next) → Passes s from frames (Ok next) × Took s from (Ok next)
   framing_last next q =
       let h = last_found s at m e next q in
       let o = g.on in
-      (framed (Last next) q, (omega (arith, h), omega (arith, h)))
+      (framed (Ok (Last next)) q, (omega (arith, h), omega (arith, h)))
 
-  pub framing_on : (start len next : ℕ) → m ≡ Part start len next → Framing s from next
+  pub framing_on : (start len next : ℕ) → m ≡ Ok (Part start len next) → Framing s from next
   unfolding skip_of
   framing_on start len next q =
       let h = part_found s at m e start len next q in
       let o = g.on in
-      record { on = omega (arith, h); same = framed (Part start len next) q }
+      record { on = omega (arith, h); same = framed (Ok (Part start len next)) q }
 
 -- ---- what follows a number
-module _ (s : List ℕ) (at kind n : ℕ) (r : Passed) where
+module _ (s : List ℕ) (at kind n : ℕ) (r : Result ℕ Refusal) where
   abbrev After : Type 0
   After = (role : ℕ) → Passes s at (after_number kind role n) r
 
@@ -108,21 +104,21 @@ module _ (s : List ℕ) (at kind n : ℕ) (r : Passed) where
   typed_after e z h role = passes_as s at _ _ r (λ k. after_typed kind role n k e z) (h passed)
 
 module _ (s : List ℕ) (at kind n : ℕ) where
-  pub false_after : kind ≡ 6 → n ≡ 0 → After s at kind n (P.Past at)
-  false_after e z role = passes_as s at _ (λ k. k tt) (P.Past at) (λ k. after_false kind role n k e z) (λ k. refl)
+  pub false_after : kind ≡ 6 → n ≡ 0 → After s at kind n (Ok at)
+  false_after e z role = passes_as s at _ (λ k. k tt) (Ok at) (λ k. after_false kind role n k e z) (λ k. refl)
 
-  pub zero_after : kind ≡ 8 → n ≡ 0 → After s at kind n (P.Past at)
-  zero_after e z role = passes_as s at _ (λ k. k tt) (P.Past at) (λ k. after_zero kind role n k e z) (λ k. refl)
+  pub zero_after : kind ≡ 8 → n ≡ 0 → After s at kind n (Ok at)
+  zero_after e z role = passes_as s at _ (λ k. k tt) (Ok at) (λ k. after_zero kind role n k e z) (λ k. refl)
 
-  pub position_after : kind ≡ 8 → (n ≡ 0 → ⊥) → (x : Refusal) → x ≡ plain 15 (at - 8) → After s at kind n (P.Refused x)
+  pub position_after : kind ≡ 8 → (n ≡ 0 → ⊥) → (x : Refusal) → x ≡ plain 15 (at - 8) → After s at kind n (Err x)
   unfolding run skip_of
-  position_after e z x p role = passes_as s at _ (λ k. fail 15 8) (P.Refused x) (λ k. after_position kind role n k e z) (λ k. rw p)
+  position_after e z x p role = passes_as s at _ (λ k. fail 15 8) (Err x) (λ k. after_position kind role n k e z) (λ k. rw p)
 
-  pub nothing_after : (kind ≡ 3 → ⊥) → (kind ≡ 4 → ⊥) → (kind ≡ 6 → ⊥) → (kind ≡ 7 → ⊥) → (kind ≡ 8 → ⊥) → After s at kind n (P.Past at)
-  nothing_after x y z w v role = passes_as s at _ (λ k. k tt) (P.Past at) (λ k. after_nothing kind role n k x y z w v) (λ k. refl)
+  pub nothing_after : (kind ≡ 3 → ⊥) → (kind ≡ 4 → ⊥) → (kind ≡ 6 → ⊥) → (kind ≡ 7 → ⊥) → (kind ≡ 8 → ⊥) → After s at kind n (Ok at)
+  nothing_after x y z w v role = passes_as s at _ (λ k. k tt) (Ok at) (λ k. after_nothing kind role n k x y z w v) (λ k. refl)
 
 -- ---- a field by its kind
-module _ (s : List ℕ) (at kind : ℕ) (r : Passed) where
+module _ (s : List ℕ) (at kind : ℕ) (r : Result ℕ Refusal) where
   abbrev FieldPasses : Type 0
   FieldPasses = (role i : ℕ) → Passes s at (field (what_of kind (role_of role) (target_of i))) r
 
@@ -132,10 +128,10 @@ module _ (s : List ℕ) (at kind : ℕ) (r : Passed) where
   pub frames_field : kind ≡ 5 → Passes s at frames r → FieldPasses
   frames_field e h role i = passes_as s at _ _ r (λ k. is_framed kind role i k e) h
 
-module _ (s : List ℕ) (at kind : ℕ) (x : kind ≡ 2 → ⊥) (y : kind ≡ 5 → ⊥) (m : Number) (e : num_read m ≡ peek_number s at) where
-  pub cut_field : m ≡ Short → (z : Refusal) → z ≡ plain 1 at → FieldPasses s at kind (P.Refused z)
-  cut_field q z p role i = passes_as s at _ _ (P.Refused z) (λ k. is_number kind role i k x y) (cut_passes s at m e q z p (target_of (target_for kind i)) (λ k n. after_number kind role n k))
+module _ (s : List ℕ) (at kind : ℕ) (x : kind ≡ 2 → ⊥) (y : kind ≡ 5 → ⊥) where
+  pub cut_field : (z : Refusal) → (length s < at + 8) × (z ≡ plain 1 at) → FieldPasses s at kind (Err z)
+  cut_field z known role i = passes_as s at _ _ (Err z) (λ k. is_number kind role i k x y) (cut_passes s at z known (target_of (target_for kind i)) (λ k n. after_number kind role n k))
 
-  pub number_field : (n : ℕ) → m ≡ Value n → (r : Passed) → After s (at + 8) kind n r → FieldPasses s at kind r
-  number_field n q r h role i =
-      passes_as s at _ _ r (λ k. is_number kind role i k x y) (value_passes s at m e n q (target_of (target_for kind i)) (λ k n. after_number kind role n k) r (h role))
+  pub number_field : (n : ℕ) → (at + 8 ≤ length s) × (n ≡ number_at s at) → (r : Result ℕ Refusal) → After s (at + 8) kind n r → FieldPasses s at kind r
+  number_field n known r h role i =
+      passes_as s at _ _ r (λ k. is_number kind role i k x y) (value_passes s at n known (target_of (target_for kind i)) (λ k n. after_number kind role n k) r (h role))

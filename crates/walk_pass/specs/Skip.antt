@@ -2,9 +2,10 @@
 use Rattle.std.specs.Prelude.{ℕ}
 use Rattle.layouts.specs.Primitive.{Result, ok}
 use Rattle.layouts.specs.Refusal.{refused_by}
-use Rattle.walk_strings.specs.declared.Passed.{Passed}
-use Rattle.walk_strings.specs.declared.Passed.TheVariants as S
+use Rattle.std.specs.Prelude as Std
+use Rattle.layouts.specs.declared.Refusal.{Refusal}
+use Rattle.std.specs.Prelude.{Ok, Err}
 
-abbrev pub skipped : Passed → Result ℕ
-skipped (S.Past ends) = ok ends
-skipped (S.Refused r) = refused_by r
+abbrev pub skipped : Std.Result ℕ Refusal → Result ℕ
+skipped (Ok ends) = ok ends
+skipped (Err r) = refused_by r

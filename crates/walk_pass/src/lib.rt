@@ -11,62 +11,48 @@ ghost use Rattle.walk_pass.specs.Passing.{Took, moved_to, MovedOn};
 ghost use Rattle.walk_pass.specs.Skip.{skipped};
 
 use layouts::Refusal;
-use numbers::Number;
 use pieces::{Chunk, Text};
 use walk_items::{Item, Layout};
-use walk_strings::Passed;
 
-// Where an item ends, and how often the body comes again; or the first refusal.
-#[derive(Drop)]
-enum Moved {
-    Past { at: usize, reps: u64 },
-    Refused(Refusal),
+// Where an item ends, and how often the body comes again.
+#[derive(Clone, Copy)]
+struct Moved {
+    at: usize,
+    reps: u64,
 }
 
-fn pass_number(s: &[u8], at: usize) -> Passed
+fn pass_number(s: &[u8], at: usize) -> Result<usize, Refusal>
     ensures law { (i : Target) → Passes s.now at (λ k. ask i (λ n. k tt)) result }
     ensures on { Took s.now at result }
 {
-    let m = pieces::number_at(s, at);
-    match m {
-        Number::Short => Passed::Refused(layouts::refuse(layouts::CUT_SHORT, at)),
-        Number::Value(_) => Passed::Past(at + 8),
-    }
+    pieces::number_or_cut(s, at)?;
+    Ok(at + 8)
 }
 
-fn pass_text(s: &[u8], at: usize) -> Passed
+fn pass_text(s: &[u8], at: usize) -> Result<usize, Refusal>
     ensures law { (m : Role) → Passes s.now at (say m) result }
     ensures on { Took s.now at result }
 {
-    let m = pieces::text_at(s, at);
-    match m {
-        Text::Bad(r) => Passed::Refused(r),
-        Text::Half { start, len } => Passed::Refused(layouts::refuse(
-            layouts::CUT_SHORT,
-            start + len,
-        )),
+    match pieces::text_at(s, at)? {
+        Text::Half { start, len } => Err(layouts::refuse(layouts::CUT_SHORT, start + len)),
         Text::Whole {
             start: _,
             len: _,
             next,
-        } => Passed::Past(next),
+        } => Ok(next),
     }
 }
 
 // Chunks up to the empty one.
-fn pass_frames(s: &[u8], from: usize) -> Passed
+fn pass_frames(s: &[u8], from: usize) -> Result<usize, Refusal>
     ensures law { Passes s.now from frames result }
     ensures on { Took s.now from result }
 {
     let mut at = from;
     loop {
-        let m = pieces::chunk_at(s, at);
-        match m {
-            Chunk::Wrong(r) => {
-                return Passed::Refused(r);
-            }
+        match pieces::chunk_at(s, at)? {
             Chunk::Last(next) => {
-                return Passed::Past(next);
+                return Ok(next);
             }
             Chunk::Part {
                 start: _,
@@ -80,7 +66,7 @@ fn pass_frames(s: &[u8], from: usize) -> Passed
 }
 
 // What follows the number of a field. A position is refused at the number itself.
-fn pass_after(s: &[u8], at: usize, kind: u8, n: u64) -> Passed
+fn pass_after(s: &[u8], at: usize, kind: u8, n: u64) -> Result<usize, Refusal>
     requires { 8 ≤ at }
     ensures law { (role : ℕ) → Passes s.now at (after_number kind role n) result }
     ensures on { PastFrom at result }
@@ -93,7 +79,7 @@ fn pass_after(s: &[u8], at: usize, kind: u8, n: u64) -> Passed
     }
     if kind == table::MAYBE {
         if n == 0 {
-            return Passed::Past(at);
+            return Ok(at);
         }
         return pass_number(s, at);
     }
@@ -105,14 +91,14 @@ fn pass_after(s: &[u8], at: usize, kind: u8, n: u64) -> Passed
     }
     if kind == table::POSITION {
         if n == 0 {
-            return Passed::Past(at);
+            return Ok(at);
         }
-        return Passed::Refused(layouts::refuse(layouts::NONZERO_POSITION, at - 8));
+        return Err(layouts::refuse(layouts::NONZERO_POSITION, at - 8));
     }
-    Passed::Past(at)
+    Ok(at)
 }
 
-fn pass_field(s: &[u8], at: usize, kind: u8) -> Passed
+fn pass_field(s: &[u8], at: usize, kind: u8) -> Result<usize, Refusal>
     ensures law { (role i : ℕ) → Passes s.now at (field (what_of kind (role_of role) (target_of i))) result }
     ensures on { Took s.now at result }
 {
@@ -122,48 +108,35 @@ fn pass_field(s: &[u8], at: usize, kind: u8) -> Passed
     if kind == table::FRAMES {
         return pass_frames(s, at);
     }
-    let m = pieces::number_at(s, at);
-    match m {
-        Number::Short => Passed::Refused(layouts::refuse(layouts::CUT_SHORT, at)),
-        Number::Value(n) => pass_after(s, at + 8, kind, n),
-    }
+    let n = pieces::number_or_cut(s, at)?;
+    pass_after(s, at + 8, kind, n)
 }
 
 // An item that is not the end.
-fn pass_item(s: &[u8], at: usize, f: Item) -> Moved
+fn pass_item(s: &[u8], at: usize, f: Item) -> Result<Moved, Refusal>
     ensures law { (v : Version) → (f.kind ≡ 0 → ⊥) → skip_of (run (item_tree v f) s.now at) ≡ moved_to s.now v f result }
     ensures on { MovedOn s.now at f result }
 {
     let kind = f.kind;
     if kind == walk_items::QUIET {
-        return Moved::Past { at, reps: f.reps };
+        return Ok(Moved { at, reps: f.reps });
     }
     if kind < walk_items::QUIET {
-        let k = pass_field(s, at, kind);
-        match k {
-            Passed::Refused(r) => {
-                return Moved::Refused(r);
-            }
-            Passed::Past(next) => {
-                return Moved::Past {
-                    at: next,
-                    reps: f.reps,
-                };
-            }
-        }
+        let next = pass_field(s, at, kind)?;
+        return Ok(Moved {
+            at: next,
+            reps: f.reps,
+        });
     }
-    let m = pieces::number_at(s, at);
-    match m {
-        Number::Short => Moved::Refused(layouts::refuse(layouts::CUT_SHORT, at)),
-        Number::Value(n) => Moved::Past {
-            at: at + 8,
-            reps: walk_items::times(kind, n),
-        },
-    }
+    let n = pieces::number_or_cut(s, at)?;
+    Ok(Moved {
+        at: at + 8,
+        reps: walk_items::times(kind, n),
+    })
 }
 
 // Where the layout ends that begins at a place of the stream.
-pub fn skip(s: &[u8], from: usize, layout: Layout) -> Passed
+pub fn skip(s: &[u8], from: usize, layout: Layout) -> Result<usize, Refusal>
     ensures { skipped result ≡ skip_of (pieces_of layout s.now from) }
 {
     let f = walk_items::begin(layout);
@@ -175,23 +148,13 @@ pub fn skip(s: &[u8], from: usize, layout: Layout) -> Passed
     loop {
         let f = walk_items::next(layout, pc, reps, body, group);
         if f.kind == table::END {
-            return Passed::Past(at);
+            return Ok(at);
         }
-        let k = pass_item(s, at, f);
-        match k {
-            Moved::Refused(r) => {
-                return Passed::Refused(r);
-            }
-            Moved::Past {
-                at: next,
-                reps: more,
-            } => {
-                at = next;
-                pc = f.pc;
-                reps = more;
-                body = f.body;
-                group = f.group;
-            }
-        }
+        let k = pass_item(s, at, f)?;
+        at = k.at;
+        pc = f.pc;
+        reps = k.reps;
+        body = f.body;
+        group = f.group;
     }
 }

@@ -24,16 +24,16 @@ use Rattle.layouts.proofs.Placed.{run_placed}
 use Rattle.table.specs.Table.{kind_numbered}
 use Rattle.walk_items.specs.declared.Brief.{Brief}
 use Rattle.walk_items.specs.Items.{version_of, layout_tree, pieces_of, Briefly}
-use Rattle.walk_judge.specs.declared.Said.{Said}
-use Rattle.walk_judge.specs.declared.Said.TheVariants as S
 use Rattle.walk_take.specs.Taking.{in_window}
 use Rattle.walk_judge.specs.Judged.{gathered, answer_of, answer_as, ended_as, window_after}
 use Rattle.walk_judge.proofs.Answers.{said_fine, said_refused, ended_fine, ended_refused}
-use Rattle.writers_output.specs.Numbers.{bytes_of}
 use Rattle.walk_rooms.specs.Rooms.{filled_after}
 use Rattle.walk_fill.specs.There.{pieces_there}
 use Rattle.walk_fill.proofs.There.{all_there}
 use Rattle.walk_read.specs.Reading.{read_by, answered_as, Planned}
+use Rattle.walk_judge.specs.declared.Said.{Said}
+use Rattle.std.specs.Prelude as Std
+use Rattle.std.specs.Prelude.{Ok, Err}
 
 none_there : (xs : List ℕ) → length xs ≡ 0 → xs ≡ []
 none_there [] e = refl
@@ -69,10 +69,9 @@ module _ (l : ℕ) (s : List ℕ) (slots room : ℕ) (c : ℕ) where
   said = read_by l s slots room
 
   -- lent rooms, and what they are afterwards
-  abbrev Lent : (words bytes payload ws bs ps : List ℕ) → Type 0
-  Lent words bytes payload ws bs ps =
-      (ws ≡ filled_after said (entries_of (pieces_of l s 0)) words) ×
-      ((bs ≡ filled_after said (bytes_of (entries_of (pieces_of l s 0))) bytes) × (ps ≡ filled_after said (payload_of s (pieces_of l s 0)) payload))
+  abbrev Lent : {E : Type 0} → (laid : List ℕ → List E) → (lent : List E) → (payload : List ℕ) → (out : List E) → (ps : List ℕ) → Type 0
+  Lent laid lent payload out ps =
+      (out ≡ filled_after said (laid (entries_of (pieces_of l s 0))) lent) × (ps ≡ filled_after said (payload_of s (pieces_of l s 0)) payload)
 
   module _ (x : Ended) (e : said ≡ ok x) where
     reads : Read slots room blank (pieces_of l s 0) x
@@ -101,40 +100,39 @@ module _ (l : ℕ) (s : List ℕ) (slots room : ℕ) (c : ℕ) where
           there = all_there s (layout_tree l) 0 x.ends reads.skips;
         }
 
-  module _ (n# : ℕ) (same : n# ≡ slots) (a : Said) (ns cs : List ℕ) (judged : answer_of a ns cs ≡ answer_as (ended_as (read_by l s n# room))) where
+  module _ (n# : ℕ) (same : n# ≡ slots) (a : Std.Result Said Refusal) (ns cs : List ℕ) (judged : answer_of a ns cs ≡ answer_as (ended_as (read_by l s n# room))) where
     j : answer_of a ns cs ≡ answer_as (ended_as said)
     j = judged ∙ ap (λ (i : ℕ). answer_as (ended_as (read_by l s i room))) same
 
-    module _ (r : Refusal) (q : a ≡ S.Refused r) where
+    module _ (r : Refusal) (q : a ≡ Err r) where
       pub refused_is : said ≡ refused_by r
       refused_is = ended_refused said r.which r.place r.stream (said_refused a ns cs (ended_as said) j r q)
 
       pub read_refused : answer_of a ns cs ≡ answer_as (answered_as (version_of l) c said)
       read_refused = j ∙ ap (λ (o : Result Ended). answer_as (ended_as o)) refused_is ∙ ap (λ (o : Result Ended). answer_as (answered_as (version_of l) c o)) (sym refused_is)
 
-      lent_kept : (new lent : List ℕ) → lent ≡ filled_after said new lent
+      lent_kept : {E : Type 0} (new lent : List E) → lent ≡ filled_after said new lent
       lent_kept new lent = ap (λ (o : Result Ended). filled_after o new lent) (sym refused_is)
 
-      pub all_kept : (words bytes payload : List ℕ) → Lent words bytes payload words bytes payload
-      all_kept words bytes payload = (lent_kept _ words, (lent_kept _ bytes, lent_kept _ payload))
+      pub all_kept : {E : Type 0} (laid : List ℕ → List E) (lent : List E) (payload : List ℕ) → Lent laid lent payload lent payload
+      all_kept laid lent payload = (lent_kept _ lent, lent_kept _ payload)
 
-    module _ (kind ends ends2 n p : ℕ) (b : Bool) (q : a ≡ S.Fine kind ends ends2 n p b) where
+    module _ (kind ends ends2 n p : ℕ) (b : Bool) (q : a ≡ Ok (record { kind = kind; ends = ends; ends2 = ends2; entries = n; payload = p; present = b })) where
       pub fine_is : said ≡ ok (record { found = gathered ns cs b n p; ends = ends })
       fine_is = ended_fine said _ (said_fine a ns cs (ended_as said) j kind ends ends2 n p b q)
 
       pub fine_planned : (w : List ℕ) → w ≡ window_after a (replicate 16 0) 0 (entries_of (pieces_of l s 0)) → Planned w n p s l
-      fine_planned w h = planned (record { found = gathered ns cs b n p; ends = ends }) fine_is w (h ∙ ap (λ (y : Said). window_after y (replicate 16 0) 0 (entries_of (pieces_of l s 0))) q)
+      fine_planned w h = planned (record { found = gathered ns cs b n p; ends = ends }) fine_is w (h ∙ ap (λ (y : Std.Result Said Refusal). window_after y (replicate 16 0) 0 (entries_of (pieces_of l s 0))) q)
 
-      pub read_fine : (k : ℕ) → k ≡ kind_numbered (version_of l) b c → answer_of (S.Fine k ends 0 n p b) ns cs ≡ answer_as (answered_as (version_of l) c said)
-      read_fine k e = ap (λ (x : ℕ). answer_of (S.Fine x ends 0 n p b) ns cs) e ∙ ap (λ (o : Result Ended). answer_as (answered_as (version_of l) c o)) (sym fine_is)
+      pub read_fine : (k : ℕ) → k ≡ kind_numbered (version_of l) b c → answer_of (Ok (record { kind = k; ends = ends; ends2 = 0; entries = n; payload = p; present = b })) ns cs ≡ answer_as (answered_as (version_of l) c said)
+      read_fine k e = ap (λ (x : ℕ). answer_of (Ok (record { kind = x; ends = ends; ends2 = 0; entries = n; payload = p; present = b })) ns cs) e ∙ ap (λ (o : Result Ended). answer_as (answered_as (version_of l) c o)) (sym fine_is)
 
-      lent_filled : (new lent out : List ℕ) → out ≡ sets lent 0 new → out ≡ filled_after said new lent
+      lent_filled : {E : Type 0} (new lent out : List E) → out ≡ sets lent 0 new → out ≡ filled_after said new lent
       lent_filled new lent out h = h ∙ ap (λ (o : Result Ended). filled_after o new lent) (sym fine_is)
 
-      pub all_filled : (words bytes payload ws bs ps : List ℕ)
-          → (ws ≡ sets words 0 (entries_of (pieces_of l s 0))) × ((bs ≡ sets bytes 0 (bytes_of (entries_of (pieces_of l s 0)))) × (ps ≡ sets payload 0 (payload_of s (pieces_of l s 0))))
-          → Lent words bytes payload ws bs ps
-      all_filled words bytes payload ws bs ps h = (lent_filled _ words ws h.0, (lent_filled _ bytes bs h.1.0, lent_filled _ payload ps h.1.1))
+      pub all_filled : {E : Type 0} (laid : List ℕ → List E) (lent : List E) (payload : List ℕ) (out : List E) (ps : List ℕ)
+          → (out ≡ sets lent 0 (laid (entries_of (pieces_of l s 0)))) × (ps ≡ sets payload 0 (payload_of s (pieces_of l s 0))) → Lent laid lent payload out ps
+      all_filled laid lent payload out ps h = (lent_filled _ lent out h.0, lent_filled _ payload ps h.1)
 
 -- ---- the filler
 neither : (x y : Bool) → x || y ≡ false → (x ≡ false) × (y ≡ false)
@@ -145,11 +143,11 @@ module _ (w : List ℕ) (entries total : ℕ) (s : List ℕ) (l : ℕ) (h : Plan
   abbrev p : Pieces
   p = pieces_of l s 0
 
-  pub from_fold : (f : Pieces → List ℕ) (lent out : List ℕ) → out ≡ sets lent 0 (f (pieces_there l s 0)) → out ≡ sets lent 0 (f p)
+  pub from_fold : {E : Type 0} (f : Pieces → List E) (lent out : List E) → out ≡ sets lent 0 (f (pieces_there l s 0)) → out ≡ sets lent 0 (f p)
   from_fold f lent out e = e ∙ ap (λ (x : Pieces). sets lent 0 (f x)) h.there
 
   module _ (few : ltb 0 total || ltb 8 entries ≡ false) where
-    pub from_window : (f : List ℕ → List ℕ) (lent out : List ℕ) → out ≡ sets lent 0 (f (take (2 * min entries (length w / 2)) w)) → out ≡ sets lent 0 (f (entries_of p))
+    pub from_window : {E : Type 0} (f : List ℕ → List E) (lent out : List E) → out ≡ sets lent 0 (f (take (2 * min entries (length w / 2)) w)) → out ≡ sets lent 0 (f (entries_of p))
     from_window f lent out e =
         let d = h.wide in
         let b = ltb-false 8 entries (neither (ltb 0 total) (ltb 8 entries) few).1 in

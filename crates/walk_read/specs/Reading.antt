@@ -8,9 +8,8 @@ use Rattle.table.specs.Table.{kind_numbered}
 use Rattle.walk_items.specs.Items.{version_of, pieces_of}
 use Rattle.walk_judge.specs.declared.Answer as C
 use Rattle.walk_judge.specs.Judged.{answer_as}
-use Rattle.walk_rooms.specs.Rooms.{RoomsFilled, rooms_filled}
+use Rattle.walk_rooms.specs.Rooms.{RoomFilled, room_filled}
 use Rattle.walk_fill.specs.There.{pieces_there}
-use Rattle.entries.specs.Entries.{slots_in}
 
 abbrev pub read_by : (layout : ℕ) → List ℕ → (slots room : ℕ) → Result Ended
 read_by l s slots room = judge_of s slots room blank (pieces_of l s 0)
@@ -19,11 +18,11 @@ read_by l s slots room = judge_of s slots room blank (pieces_of l s 0)
 abbrev pub answered_as : Version → (code : ℕ) → Result Ended → Result Answer
 answered_as v c o = onward o (λ e. ok (record { kind = kind_numbered v e.found.present c; ends = e.ends; ends2 = 0; found = e.found }))
 
--- the answer, and the rooms afterwards
-abbrev pub layout_filled : (layout code : ℕ) → (s words bytes payload : List ℕ) → RoomsFilled C.Answer
-layout_filled l c s words bytes payload =
-    rooms_filled (λ o. answer_as (answered_as (version_of l) c o)) (read_by l s (slots_in words bytes) (length payload))
-    (entries_of (pieces_of l s 0)) (payload_of s (pieces_of l s 0)) words bytes payload
+-- the answer, and the rooms afterwards, of which that for entries has so many slots
+abbrev pub layout_filled : {E : Type 0} → (laid : List ℕ → List E) → (slots layout code : ℕ) → (s : List ℕ) → (lent : List E) → (payload : List ℕ) → RoomFilled C.Answer E
+layout_filled laid slots l c s lent payload =
+    room_filled (λ o. answer_as (answered_as (version_of l) c o)) (read_by l s slots (length payload))
+    (laid (entries_of (pieces_of l s 0))) (payload_of s (pieces_of l s 0)) lent payload
 
 -- what was judged: the window of 16 numbers has the entries, if they are 8 at most; where no payload is reported, none is there; and all pieces are
 pub record Planned (window : List ℕ) (entries total : ℕ) (s : List ℕ) (layout : ℕ) : Type 0 where

@@ -13,32 +13,33 @@ use Rattle.layouts.proofs.Little.{length_number}
 use Rattle.writers_output.specs.Numbers.{bytes_of}
 use Rattle.writers_output.specs.Placed.{placed}
 use Rattle.writers_output.proofs.Laws as Output
-use Rattle.writers_output.proofs.Numbers.{bytes_none, bytes_join, bytes_length}
+use Rattle.writers_output.proofs.Numbers.{bytes_length}
 use Rattle.walk_rooms.specs.Rooms.{place_after, Put, Filling, filled_after}
+use Rattle.layouts.specs.Writers.{slots_of}
 use Rattle.entries.specs.Entries.{slots_in}
 
-set_past : (l : List ℕ) (i x : ℕ) → length l ≤ i → set l i x ≡ l
-set_past [] i x h = refl
-set_past (y ∷ l) zero x h = absurd (omega arith)
-set_past (y ∷ l) (suc i) x h = ap (λ (m : List ℕ). y ∷ m) (set_past l i x (omega arith))
+set_past : {A : Type 0} (l : List A) (i : ℕ) (x : A) → length l ≤ i → set l i x ≡ l
+set_past {A = A} [] i x h = refl
+set_past {A = A} (y ∷ l) zero x h = absurd (omega arith)
+set_past {A = A} (y ∷ l) (suc i) x h = ap (λ (m : List A). y ∷ m) (set_past l i x (omega arith))
 
-sets_past : (l : List ℕ) (i : ℕ) (vs : List ℕ) → length l ≤ i → sets l i vs ≡ l
-sets_past l i [] h = refl
-sets_past l i (v ∷ vs) h = ap (λ (m : List ℕ). sets m (suc i) vs) (set_past l i v h) ∙ sets_past l (suc i) vs (omega arith)
+sets_past : {A : Type 0} (l : List A) (i : ℕ) (vs : List A) → length l ≤ i → sets l i vs ≡ l
+sets_past {A = A} l i [] h = refl
+sets_past {A = A} l i (v ∷ vs) h = ap (λ (m : List A). sets m (suc i) vs) (set_past l i v h) ∙ sets_past l (suc i) vs (omega arith)
 
-pub sets_join : (l : List ℕ) (i : ℕ) (xs ys : List ℕ) → sets l i (xs ++ ys) ≡ sets (sets l i xs) (i + length xs) ys
-sets_join l i [] ys = ap (λ (k : ℕ). sets l k ys) (sym (add-zero i))
-sets_join l i (x ∷ xs) ys =
+pub sets_join : {A : Type 0} (l : List A) (i : ℕ) (xs ys : List A) → sets l i (xs ++ ys) ≡ sets (sets l i xs) (i + length xs) ys
+sets_join {A = A} l i [] ys = ap (λ (k : ℕ). sets l k ys) (sym (add-zero i))
+sets_join {A = A} l i (x ∷ xs) ys =
     sets_join (set l i x) (suc i) xs ys ∙ ap (λ (k : ℕ). sets (sets (set l i x) (suc i) xs) k ys) (suc-add i (length xs) ∙ sym (add-suc i (length xs)))
 
-module _ (l : List ℕ) (i : ℕ) where
-  pub put_past : (vs : List ℕ) → length l ≤ i → Put l i vs l i
+module _ {A : Type 0} (l : List A) (i : ℕ) where
+  pub put_past : (vs : List A) → length l ≤ i → Put l i vs l i
   put_past vs h = record { size = refl; then = λ ws. sets_past l i ws h ∙ sym (sets_past l i (vs ++ ws) h); place = omega arith }
 
-  pub put_one : (x : ℕ) → i < length l → Put l i (x ∷ []) (set l i x) (i + 1)
+  pub put_one : (x : A) → i < length l → Put l i (x ∷ []) (set l i x) (i + 1)
   put_one x h = record { size = length-set l i x; then = λ ws. ap (λ (k : ℕ). sets (set l i x) k ws) (add-one i); place = omega arith }
 
-  pub put_two : (m : List ℕ) (j : ℕ) (o : List ℕ) (k x y : ℕ) → Put l i (x ∷ []) m j → Put m j (y ∷ []) o k → Put l i (x ∷ y ∷ []) o k
+  pub put_two : (m : List A) (j : ℕ) (o : List A) (k : ℕ) (x y : A) → Put l i (x ∷ []) m j → Put m j (y ∷ []) o k → Put l i (x ∷ y ∷ []) o k
   put_two m j o k x y p q =
       let a = p.size in
       let b = p.place in
@@ -46,16 +47,16 @@ module _ (l : List ℕ) (i : ℕ) where
       record { size = q.size ∙ p.size; then = λ ws. q.then ws ∙ p.then (y ∷ ws); place = omega arith }
 
   -- a part of the stream that the room holds
-  pub put_fits : (vs m : List ℕ) (n : ℕ) → length vs ≡ n → i + n ≤ length l → m ≡ sets l i vs → Put l i vs m (i + n)
+  pub put_fits : (vs m : List A) (n : ℕ) → length vs ≡ n → i + n ≤ length l → m ≡ sets l i vs → Put l i vs m (i + n)
   put_fits vs m n e h q =
       record {
         size = ap length q ∙ length-sets l i vs;
-        then = λ ws. ap (λ (x : List ℕ). sets x (i + n) ws) q ∙ ap (λ (k : ℕ). sets (sets l i vs) (i + k) ws) (sym e) ∙ sym (sets_join l i vs ws);
+        then = λ ws. ap (λ (x : List A). sets x (i + n) ws) q ∙ ap (λ (k : ℕ). sets (sets l i vs) (i + k) ws) (sym e) ∙ sym (sets_join l i vs ws);
         place = omega arith;
       }
 
   -- one that it holds a beginning of: the room is full
-  pub put_full : (vs us m : List ℕ) → length l ≡ i + length vs → m ≡ sets l i vs → Put l i (vs ++ us) m (length l)
+  pub put_full : (vs us m : List A) → length l ≡ i + length vs → m ≡ sets l i vs → Put l i (vs ++ us) m (length l)
   put_full vs us m e q =
       let z : length m ≡ length l = ap length q ∙ length-sets l i vs in
       let n = length-append vs us in
@@ -65,7 +66,7 @@ module _ (l : List ℕ) (i : ℕ) where
         then = λ ws.
             sets_past m (length l) ws (omega arith) ∙
             sym
-            (ap (sets l i) (append_assoc vs us ws) ∙ sets_join l i vs (us ++ ws) ∙ ap (λ (x : List ℕ). sets x (i + length vs) (us ++ ws)) (sym q) ∙
+            (ap (sets l i) (append_assoc vs us ws) ∙ sets_join l i vs (us ++ ws) ∙ ap (λ (x : List A). sets x (i + length vs) (us ++ ws)) (sym q) ∙
             sets_past m (i + length vs) (us ++ ws) (omega arith));
       }
 
@@ -123,35 +124,29 @@ put_numbers l i m o start len h p q =
     ∙ Output.placed_fits i (number_bytes start ++ number_bytes len) l (omega arith) ∙ ap (sets l i) e)
 
 -- one after another
-pub put_join : (l : List ℕ) (i : ℕ) (vs m : List ℕ) (j : ℕ) (ws o : List ℕ) (k : ℕ) → Put l i vs m j → Put m j ws o k → Put l i (vs ++ ws) o k
-put_join l i vs m j ws o k p q =
+pub put_join : {A : Type 0} (l : List A) (i : ℕ) (vs m : List A) (j : ℕ) (ws o : List A) (k : ℕ) → Put l i vs m j → Put m j ws o k → Put l i (vs ++ ws) o k
+put_join {A = A} l i vs m j ws o k p q =
     let n = length-append vs ws in
     let a = p.size in
     let b = p.place in
     let c = q.place in
     record { size = q.size ∙ p.size; then = λ us. q.then us ∙ p.then (ws ++ us) ∙ ap (sets l i) (sym (append_assoc vs ws us)); place = omega arith }
 
--- all that was to be written stands there
-pub put_all : (l vs o : List ℕ) (k : ℕ) → Put l 0 vs o k → length vs ≤ length l → o ≡ vs ++ drop (length vs) l
-put_all l vs o k p h =
-    let e : 0 + length vs ≡ length vs = omega arith in
-    p.then [] ∙ ap (sets l 0) (append-nil vs) ∙ sets-eq vs l 0 (omega arith) ∙ ap (λ (n : ℕ). vs ++ drop n l) e
-
 -- ---- the loops
-module _ (lent : List ℕ) (from : ℕ) (es₀ : List ℕ) where
-  pub filling_start : (es : List ℕ) → es ≡ es₀ → Filling lent from es₀ lent from es
-  filling_start es e = record { size = refl; same = λ ws. ap (λ (x : List ℕ). sets lent from (x ++ ws)) e; place = ap (place_after lent from) e }
+module _ {A : Type 0} (lent : List A) (from : ℕ) (es₀ : List A) where
+  pub filling_start : (es : List A) → es ≡ es₀ → Filling lent from es₀ lent from es
+  filling_start es e = record { size = refl; same = λ ws. ap (λ (x : List A). sets lent from (x ++ ws)) e; place = ap (place_after lent from) e }
 
-  pub filling_as : (out : List ℕ) (n : ℕ) (es es₁ es' : List ℕ) → es₀ ≡ es₁ → es' ≡ es → Filling lent from es₁ out n es → Filling lent from es₀ out n es'
+  pub filling_as : (out : List A) (n : ℕ) (es es₁ es' : List A) → es₀ ≡ es₁ → es' ≡ es → Filling lent from es₁ out n es → Filling lent from es₀ out n es'
   filling_as out n es es₁ es' e e' f =
       record {
         size = f.size;
-        same = λ ws. ap (λ (x : List ℕ). sets out n (x ++ ws)) e' ∙ f.same ws ∙ ap (λ (x : List ℕ). sets lent from (x ++ ws)) (sym e);
+        same = λ ws. ap (λ (x : List A). sets out n (x ++ ws)) e' ∙ f.same ws ∙ ap (λ (x : List A). sets lent from (x ++ ws)) (sym e);
         place = ap (place_after out n) e' ∙ f.place ∙ ap (place_after lent from) (sym e);
       }
 
-  module _ (out : List ℕ) (n : ℕ) (es : List ℕ) (f : Filling lent from es₀ out n es) where
-    pub filling_put : (vs rest out' : List ℕ) (n' : ℕ) → es ≡ vs ++ rest → Put out n vs out' n' → Filling lent from es₀ out' n' rest
+  module _ (out : List A) (n : ℕ) (es : List A) (f : Filling lent from es₀ out n es) where
+    pub filling_put : (vs rest out' : List A) (n' : ℕ) → es ≡ vs ++ rest → Put out n vs out' n' → Filling lent from es₀ out' n' rest
     filling_put vs rest out' n' e p =
         let l : length es ≡ length vs + length rest = ap length e ∙ length-append vs rest in
         let a = p.size in
@@ -159,22 +154,22 @@ module _ (lent : List ℕ) (from : ℕ) (es₀ : List ℕ) where
         let c : place_after out' n' rest ≡ place_after out n es = omega arith in
         record {
           size = p.size ∙ f.size;
-          same = λ ws. p.then (rest ++ ws) ∙ ap (sets out n) (sym (append_assoc vs rest ws)) ∙ ap (λ (x : List ℕ). sets out n (x ++ ws)) (sym e) ∙ f.same ws;
+          same = λ ws. p.then (rest ++ ws) ∙ ap (sets out n) (sym (append_assoc vs rest ws)) ∙ ap (λ (x : List A). sets out n (x ++ ws)) (sym e) ∙ f.same ws;
           place = c ∙ f.place;
         }
 
     -- as far as another loop went
-    pub filling_on : (out' : List ℕ) (n' : ℕ) (es' : List ℕ) → Filling out n es out' n' es' → Filling lent from es₀ out' n' es'
+    pub filling_on : (out' : List A) (n' : ℕ) (es' : List A) → Filling out n es out' n' es' → Filling lent from es₀ out' n' es'
     filling_on out' n' es' g = record { size = g.size ∙ f.size; same = λ ws. g.same ws ∙ f.same ws; place = g.place ∙ f.place }
 
     pub filling_end : es ≡ [] → Put lent from es₀ out n
     filling_end e =
         let l = ap length e in
         let g = f.place in
-        record { size = f.size; then = λ ws. sym (ap (λ (x : List ℕ). sets out n (x ++ ws)) e) ∙ f.same ws; place = omega arith }
+        record { size = f.size; then = λ ws. sym (ap (λ (x : List A). sets out n (x ++ ws)) e) ∙ f.same ws; place = omega arith }
 
-pub put_sets : (lent : List ℕ) (new out : List ℕ) (k : ℕ) → Put lent 0 new out k → out ≡ sets lent 0 new
-put_sets lent new out k p = p.then [] ∙ ap (sets lent 0) (append-nil new)
+pub put_sets : {A : Type 0} (lent : List A) (new out : List A) (k : ℕ) → Put lent 0 new out k → out ≡ sets lent 0 new
+put_sets {A = A} lent new out k p = p.then [] ∙ ap (sets lent 0) (append-nil new)
 
 -- two numbers of a beginning, from a place on
 two_on : (l : List ℕ) (n i j : ℕ) → j ≡ i + 2 → j ≤ n → n ≤ length l → drop i (take n l) ≡ (get_or l i 0 ∷ get_or l (i + 1) 0 ∷ []) ++ drop j (take n l)
@@ -191,39 +186,35 @@ two_on l n i j e h g =
 pub few : (win : List ℕ) (n count : ℕ) → count ≡ min n (length win / 2) → 2 * count ≤ length win
 few win n count e = omega arith
 
--- the entries of a window, one after the other
-module _ (win : List ℕ) (n : ℕ) (words₀ bytes₀ : List ℕ) where
+-- the entries of a window, one after the other, in a form that keeps the laws of a room
+module _ {A : Type 0} (form : List ℕ → List A) (nothing : form [] ≡ []) (joined : (xs ys : List ℕ) → form (xs ++ ys) ≡ form xs ++ form ys) (win : List ℕ) (n : ℕ) (lent : List A) where
   abbrev all# : List ℕ
   all# = take (2 * n) win
 
-  pub record Flushing (ws : List ℕ) (w : ℕ) (bs : List ℕ) (b i : ℕ) : Type 0 where
+  pub record Flushing (out : List A) (at i : ℕ) : Type 0 where
     pub on : i ≤ n
-    pub words : Filling words₀ 0 all# ws w (drop (2 * i) all#)
-    pub bytes : Filling bytes₀ 0 (bytes_of all#) bs b (bytes_of (drop (2 * i) all#))
+    pub filling : Filling lent 0 (form all#) out at (form (drop (2 * i) all#))
 
-  pub flushing_start : Flushing words₀ 0 bytes₀ 0 0
-  flushing_start = record { on = omega arith; words = filling_start words₀ 0 all# all# refl; bytes = filling_start bytes₀ 0 (bytes_of all#) (bytes_of all#) refl }
+  pub flushing_start : Flushing lent 0 0
+  flushing_start = record { on = omega arith; filling = filling_start lent 0 (form all#) (form all#) refl }
 
-  module _ (few : 2 * n ≤ length win) (words : List ℕ) (w : ℕ) (bytes : List ℕ) (b i : ℕ) (g : Flushing words w bytes b i) where
-    pub flushing_end : n ≤ i → (words ≡ sets words₀ 0 all#) × (bytes ≡ sets bytes₀ 0 (bytes_of all#))
+  module _ (few : 2 * n ≤ length win) (out : List A) (at i : ℕ) (g : Flushing out at i) where
+    pub flushing_end : n ≤ i → out ≡ sets lent 0 (form all#)
     flushing_end h =
         let o = g.on in
         let l : length all# ≡ 2 * n = length-take-le (2 * n) win (omega arith) in
-        let e : drop (2 * i) all# ≡ [] = drop_of_length-le all# {i = 2 * i} (omega arith) in (
-          put_sets words₀ all# words w (filling_end words₀ 0 all# words w _ g.words e),
-          put_sets bytes₀ (bytes_of all#) bytes b (filling_end bytes₀ 0 (bytes_of all#) bytes b _ g.bytes (ap bytes_of e ∙ bytes_none)),
-        )
+        let e : drop (2 * i) all# ≡ [] = drop_of_length-le all# {i = 2 * i} (omega arith) in
+        put_sets lent (form all#) out at (filling_end lent 0 (form all#) out at _ g.filling (ap form e ∙ nothing))
 
     module _ (h : i < n) (x y : ℕ) (p : x ≡ get_or win (2 * i) 0) (q : y ≡ get_or win (2 * i + 1) 0) where
       next_two : drop (2 * i) all# ≡ (x ∷ y ∷ []) ++ drop (2 * (i + 1)) all#
       next_two = rw (p, q) (two_on win (2 * n) (2 * i) (2 * (i + 1)) (omega arith) (omega arith) (omega arith))
 
-      pub flushing_on : (words' : List ℕ) (w' : ℕ) (bytes' : List ℕ) (b' : ℕ) → Put words w (x ∷ y ∷ []) words' w' → Put bytes b (bytes_of (x ∷ y ∷ [])) bytes' b' → Flushing words' w' bytes' b' (i + 1)
-      flushing_on words' w' bytes' b' f k =
+      pub flushing_on : (out' : List A) (at' : ℕ) → Put out at (form (x ∷ y ∷ [])) out' at' → Flushing out' at' (i + 1)
+      flushing_on out' at' f =
           record {
             on = omega arith;
-            words = filling_put words₀ 0 all# words w _ g.words (x ∷ y ∷ []) _ words' w' next_two f;
-            bytes = filling_put bytes₀ 0 (bytes_of all#) bytes b _ g.bytes (bytes_of (x ∷ y ∷ [])) _ bytes' b' (ap bytes_of next_two ∙ bytes_join (x ∷ y ∷ []) _) k;
+            filling = filling_put lent 0 (form all#) out at _ g.filling (form (x ∷ y ∷ [])) _ out' at' (ap form next_two ∙ joined (x ∷ y ∷ []) _) f;
           }
 
 -- ---- what fits is all there
@@ -234,24 +225,12 @@ fitting (ok x) new lent h =
     sets-eq new lent 0 (omega arith) ∙ ap (λ (n : ℕ). new ++ drop n lent) e
 fitting (refused which place stream) new lent h = refl
 
--- a call with one of the two rooms for entries, the other one empty
-module _ {A C : Type 0} (o : ℕ → Result A) (f : Result A → C) (whole : List ℕ) (fits : (n : ℕ) (x : A) → o n ≡ ok x → length whole ≤ 2 * n) (r : C) (words ws bytes bs : List ℕ)
-    (h : (r ≡ f (o (slots_in words bytes))) × ((ws ≡ filled_after (o (slots_in words bytes)) whole words) × (bs ≡ filled_after (o (slots_in words bytes)) (bytes_of whole) bytes))) where
-  pub with_words : bytes ≡ [] → (r ≡ f (o (length words / 2))) × (ws ≡ lent_after (o (length words / 2)) whole words)
-  with_words e =
-      let n = length words / 2 in
-      let z = ap length e in
-      let k : slots_in words bytes ≡ n = omega arith in (
-        h.0 ∙ ap (λ (i : ℕ). f (o i)) k,
-        h.1.0 ∙ ap (λ (i : ℕ). filled_after (o i) whole words) k ∙ fitting (o n) whole words (λ x q. let g = fits n x q in omega arith),
-      )
+-- a call with a room for entries as numbers, or as bytes: what it reports fits
+module _ {A : Type 0} (o : ℕ → Result A) (whole : List ℕ) (fits : (n : ℕ) (x : A) → o n ≡ ok x → length whole ≤ 2 * n) (lent out : List ℕ) where
+  pub with_words : out ≡ filled_after (o (slots_of lent)) whole lent → out ≡ lent_after (o (slots_of lent)) whole lent
+  with_words h = h ∙ fitting (o (slots_of lent)) whole lent (λ x q. let g = fits (slots_of lent) x q in omega arith)
 
-  pub with_bytes : words ≡ [] → (r ≡ f (o (length bytes / 16))) × (bs ≡ lent_after (o (length bytes / 16)) (bytes_of whole) bytes)
-  with_bytes e =
-      let n = length bytes / 16 in
-      let z = ap length e in
-      let k : slots_in words bytes ≡ n = omega arith in
-      let l = bytes_length whole in (
-        h.0 ∙ ap (λ (i : ℕ). f (o i)) k,
-        h.1.1 ∙ ap (λ (i : ℕ). filled_after (o i) (bytes_of whole) bytes) k ∙ fitting (o n) (bytes_of whole) bytes (λ x q. let g = fits n x q in omega arith),
-      )
+  pub with_bytes : out ≡ filled_after (o (slots_in lent)) (bytes_of whole) lent → out ≡ lent_after (o (slots_in lent)) (bytes_of whole) lent
+  with_bytes h =
+      let l = bytes_length whole in
+      h ∙ fitting (o (slots_in lent)) (bytes_of whole) lent (λ x q. let g = fits (slots_in lent) x q in omega arith)

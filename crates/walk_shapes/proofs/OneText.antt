@@ -17,20 +17,13 @@ use Rattle.layouts.specs.Record.{blank, with_entries, entered}
 use Rattle.layouts.specs.Judge.{Ended, not_text, text_taken, half_taken, judge_of, entries_of, payload_of}
 use Rattle.layouts.proofs.Views.{TextView, no_length, too_long_there, no_contents, no_padding, is_whole, text_view}
 use Rattle.layouts.proofs.Placed.{never_both}
-use Rattle.pieces.specs.declared.Verdict.{Verdict}
-use Rattle.pieces.specs.declared.Verdict.TheVariants as W
 use Rattle.pieces.specs.Pieces.{Span, span, judged_read, span_of, string_at}
 use Rattle.pieces.proofs.Numbers.{as_told}
-use Rattle.entries.specs.Entries.{slots_in}
 use Rattle.table.specs.Packed.{first_code}
 use Rattle.table.specs.Table.{kind_numbered}
-use Rattle.walk_strings.specs.declared.Passed.{Passed}
-use Rattle.walk_strings.specs.declared.Passed.TheVariants as P
 use Rattle.walk_items.specs.Items.{version_of, layout_tree, pieces_of}
-use Rattle.walk_judge.specs.declared.Said.TheVariants as S
 use Rattle.walk_judge.specs.declared.Answer.{Answer}
 use Rattle.walk_judge.specs.Judged.{answer_of, answer_as}
-use Rattle.writers_output.specs.Numbers.{bytes_of}
 use Rattle.walk_rooms.specs.Rooms.{Put, filled_after}
 use Rattle.walk_rooms.proofs.Laws.{put_sets}
 use Rattle.walk_read.specs.Reading.{read_by, answered_as}
@@ -38,6 +31,9 @@ use Rattle.walk_shapes.specs.declared.InBrief.{InBrief}
 use Rattle.walk_shapes.specs.declared.InBrief.TheVariants as I
 use Rattle.walk_shapes.specs.Shapes.{text_pieces, text_read, text_told, ReadInBrief}
 use Rattle.walk_shapes.proofs.Brief.{lent_none}
+use Rattle.pieces.specs.declared.Contents.{Contents}
+use Rattle.std.specs.Prelude as Std
+use Rattle.std.specs.Prelude.{Ok, Err}
 
 abbrev entry_in : Result Span → List ℕ
 entry_in (ok p) = p.start ∷ p.len ∷ []
@@ -87,72 +83,63 @@ module _ (s : List ℕ) where
       by (is_whole h l) = refl
 
   -- ---- each way through the code that takes it
-  module _ (t : Verdict) (e : judged_read t ≡ string_at s true 0) where
-    pub judged_as_lem : (t' : Verdict) → t ≡ t' → (slots room : ℕ) (full : Bool) → leb slots 0 ≡ full → with_slots full (judged_read t') ≡ text_read s slots room
+  module _ (t : Std.Result Contents Refusal) (e : judged_read t ≡ string_at s true 0) where
+    pub judged_as_lem : (t' : Std.Result Contents Refusal) → t ≡ t' → (slots room : ℕ) (full : Bool) → leb slots 0 ≡ full → with_slots full (judged_read t') ≡ text_read s slots room
     judged_as_lem t' q slots room full f = ap (with_slots full) (as_told judged_read q e) ∙ sym (text_judged slots room full f)
 
-    pub entries_are : (start len next : ℕ) → t ≡ W.Fine start len next → entries_of (text_pieces s) ≡ start ∷ len ∷ []
+    pub entries_are : (start len next : ℕ) → t ≡ Ok (record { start = start; len = len; next = next }) → entries_of (text_pieces s) ≡ start ∷ len ∷ []
     unfolding run string_at
     entries_are start len next q = entries_by (not_text s kept 8 (number_at s 0)) start len next (text_view (length s) (number_at s 0) 0) refl (sym (as_told judged_read q e))
 
-    -- the rooms that stay, and that are filled
-    abbrev Taken : (slots : ℕ) (words bytes ws bs : List ℕ) → Passed → Type 0
-    Taken slots words bytes ws bs r =
-        ((room : ℕ) → text_told r ≡ text_read s slots room)
-        × ((ws ≡ filled_after (text_told r) (entries_of (text_pieces s)) words) × (bs ≡ filled_after (text_told r) (bytes_of (entries_of (text_pieces s))) bytes))
+    -- the room that stays, and that is filled
+    abbrev Taken : {E : Type 0} → (laid : List ℕ → List E) → (slots : ℕ) → (lent out : List E) → Std.Result ℕ Refusal → Type 0
+    Taken laid slots lent out r =
+        ((room : ℕ) → text_told r ≡ text_read s slots room) × (out ≡ filled_after (text_told r) (laid (entries_of (text_pieces s))) lent)
 
-    pub text_refused : (x : Refusal) → t ≡ W.Refused x → (slots : ℕ) (words bytes : List ℕ) → Taken slots words bytes words bytes (P.Refused x)
-    text_refused x q slots words bytes = (λ room. judged_as_lem (W.Refused x) q slots room (leb slots 0) refl, (refl, refl))
+    pub text_refused : {E : Type 0} (laid : List ℕ → List E) (x : Refusal) → t ≡ Err x → (slots : ℕ) (lent : List E) → Taken laid slots lent lent (Err x)
+    text_refused laid x q slots lent = (λ room. judged_as_lem (Err x) q slots room (leb slots 0) refl, refl)
 
-    module _ (start len next : ℕ) (q : t ≡ W.Fine start len next) (words bytes : List ℕ) (n : ℕ) (g : n ≡ slots_in words bytes) where
-      pub text_full : n ≡ 0 → (x : Refusal) → x ≡ plain 4 0 → Taken (slots_in words bytes) words bytes words bytes (P.Refused x)
+    module _ {E : Type 0} (laid : List ℕ → List E) (start len next : ℕ) (q : t ≡ Ok (record { start = start; len = len; next = next })) (slots : ℕ) (lent : List E) (n : ℕ) (g : n ≡ slots) where
+      pub text_full : n ≡ 0 → (x : Refusal) → x ≡ plain 4 0 → Taken laid slots lent lent (Err x)
       text_full z x p =
-          (λ room. ap refused_by p ∙ judged_as_lem (W.Fine start len next) q _ room true (le-leb (slots_in words bytes) 0 (omega arith)), (refl, refl))
+          (λ room. ap refused_by p ∙ judged_as_lem (Ok (record { start = start; len = len; next = next })) q _ room true (le-leb slots 0 (omega arith)), refl)
 
-      pub text_taken_lem : (n ≡ 0 → ⊥) → (ws : List ℕ) (i : ℕ) → Put words 0 (start ∷ len ∷ []) ws i → (bs : List ℕ) (j : ℕ) → Put bytes 0 (bytes_of (start ∷ len ∷ [])) bs j
-          → Taken (slots_in words bytes) words bytes ws bs (P.Past next)
-      text_taken_lem z ws i p bs j p' = (
-        λ room. judged_as_lem (W.Fine start len next) q _ room false (lt-leb (slots_in words bytes) 0 (omega arith)),
-        (
-          put_sets words _ ws i p ∙ ap (sets words 0) (sym (entries_are start len next q)),
-          put_sets bytes _ bs j p' ∙ ap (λ (es : List ℕ). sets bytes 0 (bytes_of es)) (sym (entries_are start len next q)),
-        ),
+      pub text_taken_lem : (n ≡ 0 → ⊥) → (out : List E) (i : ℕ) → Put lent 0 (laid (start ∷ len ∷ [])) out i → Taken laid slots lent out (Ok next)
+      text_taken_lem z out i p = (
+        λ room. judged_as_lem (Ok (record { start = start; len = len; next = next })) q _ room false (lt-leb slots 0 (omega arith)),
+        put_sets lent _ out i p ∙ ap (λ (es : List ℕ). sets lent 0 (laid es)) (sym (entries_are start len next q)),
       )
 
 -- ---- what is said of it
-module _ (t : Passed) (c : ℕ) where
-  pub said_refused : (x : Refusal) → t ≡ P.Refused x → (a : Answer) → a ≡ answer_as (refused_by x) → (v : Version) → a ≡ answer_as (answered_as v c (text_told t))
-  said_refused x q a e v = e ∙ ap (λ (y : Passed). answer_as (answered_as v c (text_told y))) (sym q)
+module _ (t : Std.Result ℕ Refusal) (c : ℕ) where
+  pub said_refused : (x : Refusal) → t ≡ Err x → (a : Answer) → a ≡ answer_as (refused_by x) → (v : Version) → a ≡ answer_as (answered_as v c (text_told t))
+  said_refused x q a e v = e ∙ ap (λ (y : Std.Result ℕ Refusal). answer_as (answered_as v c (text_told y))) (sym q)
 
-  pub said_fine : (ends : ℕ) → t ≡ P.Past ends → (k : ℕ) → ((v : Version) → k ≡ kind_numbered v false c)
-      → (v : Version) → answer_of (S.Fine k ends 0 1 0 false) (replicate 12 0) (replicate 3 0) ≡ answer_as (answered_as v c (text_told t))
+  pub said_fine : (ends : ℕ) → t ≡ Ok ends → (k : ℕ) → ((v : Version) → k ≡ kind_numbered v false c)
+      → (v : Version) → answer_of (Ok (record { kind = k; ends = ends; ends2 = 0; entries = 1; payload = 0; present = false })) (replicate 12 0) (replicate 3 0) ≡ answer_as (answered_as v c (text_told t))
   said_fine ends q k e v =
-      ap (λ (x : ℕ). answer_of (S.Fine x ends 0 1 0 false) (replicate 12 0) (replicate 3 0)) (e v) ∙ ap (λ (y : Passed). answer_as (answered_as v c (text_told y))) (sym q)
+      ap (λ (x : ℕ). answer_of (Ok (record { kind = x; ends = ends; ends2 = 0; entries = 1; payload = 0; present = false })) (replicate 12 0) (replicate 3 0)) (e v) ∙ ap (λ (y : Std.Result ℕ Refusal). answer_as (answered_as v c (text_told y))) (sym q)
 
 -- ---- for one who has matched on it
 pub is_text_lem : (l c : ℕ) (s ns cs : List ℕ) (b : InBrief) → ReadInBrief l c s ns cs b → b ≡ I.Text → (layout_tree l ≡ say kept (λ u. stop)) × (c < first_code)
 is_text_lem l c s ns cs b h q = subst (ReadInBrief l c s ns cs) q h
 
-module _ (l c : ℕ) (z : layout_tree l ≡ say kept (λ u. stop)) (s words bytes payload : List ℕ) (r : Passed)
-    (e : (room : ℕ) → text_told r ≡ text_read s (slots_in words bytes) room) (a : Answer) (h : (v : Version) → a ≡ answer_as (answered_as v c (text_told r))) where
+module _ (l c : ℕ) (z : layout_tree l ≡ say kept (λ u. stop)) (s : List ℕ) {E : Type 0} (laid : List ℕ → List E) (slots : ℕ) (lent : List E) (payload : List ℕ) (r : Std.Result ℕ Refusal)
+    (e : (room : ℕ) → text_told r ≡ text_read s slots room) (a : Answer) (h : (v : Version) → a ≡ answer_as (answered_as v c (text_told r))) where
   abbrev read : Result Ended
-  read = read_by l s (slots_in words bytes) (length payload)
+  read = read_by l s slots (length payload)
 
   told : text_told r ≡ read
-  told = e (length payload) ∙ ap (λ (t : Tree). judge_of s (slots_in words bytes) (length payload) blank (run t s 0)) (sym z)
+  told = e (length payload) ∙ ap (λ (t : Tree). judge_of s slots (length payload) blank (run t s 0)) (sym z)
 
-  lent_as : (f : List ℕ → List ℕ) (lent out : List ℕ) → out ≡ filled_after (text_told r) (f (entries_of (text_pieces s))) lent → out ≡ filled_after read (f (entries_of (pieces_of l s 0))) lent
-  lent_as f lent out q =
-      q ∙ ap (λ (o : Result Ended). filled_after o (f (entries_of (text_pieces s))) lent) told ∙ ap (λ (t : Tree). filled_after read (f (entries_of (run t s 0))) lent) (sym z)
+  lent_as : (out : List E) → out ≡ filled_after (text_told r) (laid (entries_of (text_pieces s))) lent → out ≡ filled_after read (laid (entries_of (pieces_of l s 0))) lent
+  lent_as out q =
+      q ∙ ap (λ (o : Result Ended). filled_after o (laid (entries_of (text_pieces s))) lent) told ∙ ap (λ (t : Tree). filled_after read (laid (entries_of (run t s 0))) lent) (sym z)
 
-  pub text_read_lem : (ws : List ℕ) → ws ≡ filled_after (text_told r) (entries_of (text_pieces s)) words → (bs : List ℕ) → bs ≡ filled_after (text_told r) (bytes_of (entries_of (text_pieces s))) bytes
+  pub text_read_lem : (out : List E) → out ≡ filled_after (text_told r) (laid (entries_of (text_pieces s))) lent
       → (a ≡ answer_as (answered_as (version_of l) c read))
-      × ((ws ≡ filled_after read (entries_of (pieces_of l s 0)) words)
-      × ((bs ≡ filled_after read (bytes_of (entries_of (pieces_of l s 0))) bytes) × (payload ≡ filled_after read (payload_of s (pieces_of l s 0)) payload)))
-  text_read_lem ws f bs g = (
+      × ((out ≡ filled_after read (laid (entries_of (pieces_of l s 0))) lent) × (payload ≡ filled_after read (payload_of s (pieces_of l s 0)) payload))
+  text_read_lem out f = (
     h (version_of l) ∙ ap (λ (o : Result Ended). answer_as (answered_as (version_of l) c o)) told,
-    (
-      lent_as (λ x. x) words ws f,
-      (lent_as bytes_of bytes bs g, lent_none read _ payload (ap (λ (t : Tree). payload_of s (run t s 0)) z ∙ no_payload s)),
-    ),
+    (lent_as out f, lent_none read _ payload (ap (λ (t : Tree). payload_of s (run t s 0)) z ∙ no_payload s)),
   )

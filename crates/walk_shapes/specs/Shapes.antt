@@ -13,35 +13,34 @@ use Rattle.table.specs.Packed.{first_code}
 use Rattle.table.specs.Table.{row_for}
 use Rattle.walk_judge.specs.declared.Answer as C
 use Rattle.walk_judge.specs.Judged.{answer_of, answer_as}
-use Rattle.walk_rooms.specs.Rooms.{RoomsFilled, rooms_filled}
-use Rattle.entries.specs.Entries.{slots_in}
-use Rattle.walk_strings.specs.declared.Passed.{Passed}
-use Rattle.walk_strings.specs.declared.Passed.TheVariants as P
+use Rattle.walk_rooms.specs.Rooms.{RoomFilled, room_filled}
 use Rattle.walk_read.specs.Reading.{read_by, answered_as}
-use Rattle.table_operations.specs.declared.Shape.{Shape}
-use Rattle.table_operations.specs.declared.Shape.TheVariants.{Unknown, At}
 use Rattle.table_operations.specs.Rows.{arguments_of, reply_of}
 use Rattle.walk_shapes.specs.declared.InBrief.{InBrief}
 use Rattle.walk_shapes.specs.declared.InBrief.TheVariants as I
+use Rattle.table_operations.specs.declared.Shape.{Shape}
+use Rattle.std.specs.Prelude as Std
+use Rattle.layouts.specs.declared.Refusal.{Refusal}
+use Rattle.std.specs.Prelude.{Option, Some, None, Ok, Err}
 
-abbrev pub shape_pieces : Version → Shape → List ℕ → Pieces
-shape_pieces v Unknown s = fault 9 0
-shape_pieces v (At first kind) s = layout_pieces v first s 0
+abbrev pub shape_pieces : Version → Option Shape → List ℕ → Pieces
+shape_pieces v None s = fault 9 0
+shape_pieces v (Some k) s = layout_pieces v k.first s 0
 
-abbrev pub shape_read : Version → Shape → List ℕ → (slots room : ℕ) → Result Answer
-shape_read v Unknown s slots room = refused 9 0 0
-shape_read v (At first kind) s slots room = answered_as v kind (judge_of s slots room blank (layout_pieces v first s 0))
+abbrev pub shape_read : Version → Option Shape → List ℕ → (slots room : ℕ) → Result Answer
+shape_read v None s slots room = refused 9 0 0
+shape_read v (Some k) s slots room = answered_as v k.kind (judge_of s slots room blank (layout_pieces v k.first s 0))
 
--- the answer, and the rooms afterwards
-abbrev pub shape_filled : Version → Shape → (s words bytes payload : List ℕ) → RoomsFilled C.Answer
-shape_filled v x s words bytes payload =
-    rooms_filled answer_as (shape_read v x s (slots_in words bytes) (length payload)) (entries_of (shape_pieces v x s)) (payload_of s (shape_pieces v x s)) words bytes payload
+-- the answer, and the rooms afterwards, of which that for entries has so many slots
+abbrev pub shape_filled : {E : Type 0} → (laid : List ℕ → List E) → (slots : ℕ) → Version → Option Shape → (s : List ℕ) → (lent : List E) → (payload : List ℕ) → RoomFilled C.Answer E
+shape_filled laid slots v x s lent payload =
+    room_filled answer_as (shape_read v x s slots (length payload)) (laid (entries_of (shape_pieces v x s))) (payload_of s (shape_pieces v x s)) lent payload
 
-abbrev pub arguments_filled : Context → (s words bytes payload : List ℕ) → RoomsFilled C.Answer
-arguments_filled c s words bytes payload = shape_filled c.spoken (arguments_of (row_for c.mode c.op)) s words bytes payload
+abbrev pub arguments_filled : {E : Type 0} → (laid : List ℕ → List E) → (slots : ℕ) → Context → (s : List ℕ) → (lent : List E) → (payload : List ℕ) → RoomFilled C.Answer E
+arguments_filled laid slots c s lent payload = shape_filled laid slots c.spoken (arguments_of (row_for c.mode c.op)) s lent payload
 
-abbrev pub reply_filled : (op : ℕ) → Version → (s words bytes payload : List ℕ) → RoomsFilled C.Answer
-reply_filled op v s words bytes payload = shape_filled v (reply_of (row_for Ported op)) s words bytes payload
+abbrev pub reply_filled : {E : Type 0} → (laid : List ℕ → List E) → (slots op : ℕ) → Version → (s : List ℕ) → (lent : List E) → (payload : List ℕ) → RoomFilled C.Answer E
+reply_filled laid slots op v s lent payload = shape_filled laid slots v (reply_of (row_for Ported op)) s lent payload
 
 -- ---- a layout of one string, which is kept
 abbrev pub text_pieces : List ℕ → Pieces
@@ -50,9 +49,9 @@ text_pieces s = run (say kept (λ u. stop)) s 0
 abbrev pub text_read : List ℕ → (slots room : ℕ) → Result Ended
 text_read s slots room = judge_of s slots room blank (text_pieces s)
 
-abbrev pub text_told : Passed → Result Ended
-text_told (P.Past e) = ok (record { found = with_entries blank 1; ends = e })
-text_told (P.Refused r) = refused_by r
+abbrev pub text_told : Std.Result ℕ Refusal → Result Ended
+text_told (Ok e) = ok (record { found = with_entries blank 1; ends = e })
+text_told (Err r) = refused_by r
 
 -- ---- what is said without a fold is what a read says, whatever the room, and nothing is filled in
 abbrev pub ReadInBrief : (layout code : ℕ) → List ℕ → (numbers counts : List ℕ) → InBrief → Type 0

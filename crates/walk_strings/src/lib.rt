@@ -5,42 +5,35 @@ ghost use Rattle.layouts.specs.Shape.{Role};
 ghost use Rattle.walk_strings.specs.Strings.{series, after_next, Passes, PastFrom, Strides, Expected};
 
 use layouts::Refusal;
-use numbers::Number;
 use pieces::Text;
 
 // From so many bytes a string on, a length is seldom in the first-level cache when its turn comes.
 const LONG: usize = 256;
 
-// Where the series ends, or its first refusal.
-#[derive(Drop)]
-pub enum Passed {
-    Past(usize),
-    Refused(Refusal),
+// What is left of a series after its next string.
+#[derive(Clone, Copy)]
+pub struct More {
+    pub pend: u64,
+    pub left: u64,
 }
 
-// What is left of a series after its next string, if it has one.
-#[derive(Drop)]
-pub enum More {
-    String { pend: u64, left: u64 },
-    None,
-}
-
-pub fn after_next(pend: u64, extra: u64, left: u64) -> More
+// `None` where the series has no string more.
+pub fn after_next(pend: u64, extra: u64, left: u64) -> Option<More>
     ensures { result ≡ after_next pend extra left }
 {
     if 0 < pend {
-        return More::String {
+        return Some(More {
             pend: pend - 1,
             left,
-        };
+        });
     }
     if 0 < left {
-        return More::String {
+        return Some(More {
             pend: extra,
             left: left - 1,
-        };
+        });
     }
-    More::None
+    None
 }
 
 // A long string, as long as the last one, which took so many bytes with its length and padding: then the place after it waits for no load. Short ones differ in
@@ -59,13 +52,13 @@ fn is_expected(s: &[u8], at: usize, expected: usize, step: usize) -> bool
         return false;
     }
     match pieces::number_at(s, at) {
-        Number::Short => false,
-        Number::Value(n) => n == expected as u64,
+        None => false,
+        Some(n) => n == expected as u64,
     }
 }
 
-// No contents are looked at.
-pub fn pass(s: &[u8], from: usize, pend: u64, extra: u64, left: u64) -> Passed
+// Where the series ends, or its first refusal. No contents are looked at.
+pub fn pass(s: &[u8], from: usize, pend: u64, extra: u64, left: u64) -> Result<usize, Refusal>
     ensures law { (m : Role) → Passes s.now from (series m pend extra left) result }
     ensures on { PastFrom from result }
 {
@@ -74,43 +67,27 @@ pub fn pass(s: &[u8], from: usize, pend: u64, extra: u64, left: u64) -> Passed
     let mut l = left;
     let mut expected: usize = 0;
     let mut step: usize = 0;
-    loop {
-        let m = after_next(p, extra, l);
-        match m {
-            More::None => {
-                return Passed::Past(at);
-            }
-            More::String { pend, left } => {
-                if is_expected(s, at, expected, step) {
-                    at += step;
-                    p = pend;
-                    l = left;
-                } else {
-                    let t = pieces::text_at(s, at);
-                    match t {
-                        Text::Bad(r) => {
-                            return Passed::Refused(r);
-                        }
-                        Text::Half { start, len } => {
-                            return Passed::Refused(layouts::refuse(
-                                layouts::CUT_SHORT,
-                                start + len,
-                            ));
-                        }
-                        Text::Whole {
-                            start: _,
-                            len,
-                            next,
-                        } => {
-                            step = next - at;
-                            at = next;
-                            p = pend;
-                            l = left;
-                            expected = len;
-                        }
-                    }
+    while let Some(more) = after_next(p, extra, l) {
+        if is_expected(s, at, expected, step) {
+            at += step;
+        } else {
+            match pieces::text_at(s, at)? {
+                Text::Half { start, len } => {
+                    return Err(layouts::refuse(layouts::CUT_SHORT, start + len));
+                }
+                Text::Whole {
+                    start: _,
+                    len,
+                    next,
+                } => {
+                    step = next - at;
+                    at = next;
+                    expected = len;
                 }
             }
         }
+        p = more.pend;
+        l = more.left;
     }
+    Ok(at)
 }

@@ -14,35 +14,16 @@ ghost use Rattle.walk_strings.specs.Strings.{series};
 ghost use Rattle.walk_take.specs.Taking.{in_window, taken, TakenIn, Takes, SeriesFrom, SeriesTook, TakesFrames};
 
 use layouts::Refusal;
-use numbers::Number;
 use pieces::{Chunk, Text};
-use walk_strings::More;
 
 // How many entries a window holds, two numbers each: few calls keep more strings, and who fills in needs no second fold where they fit.
 pub const WINDOW: usize = 8;
 
-// What a string or chunk makes of the entries, or of the payload, so far.
-#[derive(Drop)]
-enum Taken {
-    Fine(usize),
-    Refused(Refusal),
-}
-
-// Where a series of strings ends, and the entries then; or its first refusal.
-#[derive(Drop)]
-pub enum Series {
-    Past { at: usize, entries: usize },
-    Refused(Refusal),
-}
-
-// The place of a length, from that of the contents.
-fn place_of(start: usize) -> usize
-    ensures { result ≡ start - 8 }
-{
-    if start < 8 {
-        return 0;
-    }
-    start - 8
+// Where a series of strings ends, and the entries then.
+#[derive(Clone, Copy)]
+pub struct Series {
+    pub at: usize,
+    pub entries: usize,
 }
 
 // Where the text of a string ends: with its contents, or earlier where it is to be text and is not.
@@ -77,23 +58,24 @@ fn take_text(
     start: usize,
     len: usize,
     window: &mut [u64; 16],
-) -> Taken
+) -> Result<usize, Refusal>
     requires { start + len ≤ length s.now }
     ensures law { (r : Record) → r.entries ≡ n → taken (with_entries r) result ≡ text_taken s.now slots r (role_of role) start len }
     ensures window { TakenIn window.old n (role_of role) start len window.new result }
 {
     let to = text_to(s, role, start, len);
     if to < start + len {
-        return Taken::Refused(layouts::refuse(layouts::BAD_TEXT, to));
+        return Err(layouts::refuse(layouts::BAD_TEXT, to));
     }
     if role < table::KEPT {
-        return Taken::Fine(n);
+        return Ok(n);
     }
     if slots <= n {
-        return Taken::Refused(layouts::refuse(layouts::NO_ENTRY_ROOM, place_of(start)));
+        // at its length
+        return Err(layouts::refuse(layouts::NO_ENTRY_ROOM, start.saturating_sub(8)));
     }
     keep(window, n, start, len);
-    Taken::Fine(n + 1)
+    Ok(n + 1)
 }
 
 // A string whose contents are whole and whose padding is cut short: 3, then 1.
@@ -119,7 +101,7 @@ pub fn judge_series(
     slots: usize,
     n: usize,
     window: &mut [u64; 16],
-) -> Series
+) -> Result<Series, Refusal>
     ensures law { Takes s.now slots from (series (role_of role) pend extra left) window.old n window.new result }
     ensures on { SeriesFrom from result }
 {
@@ -127,31 +109,14 @@ pub fn judge_series(
     let mut p = pend;
     let mut l = left;
     let mut entries = n;
-    loop {
-        let m = walk_strings::after_next(p, extra, l);
-        match m {
-            More::None => {
-                return Series::Past { at, entries };
-            }
-            More::String { pend, left } => {
-                let t = judge_text(s, at, role, slots, entries, window);
-                match t {
-                    Series::Refused(r) => {
-                        return Series::Refused(r);
-                    }
-                    Series::Past {
-                        at: next,
-                        entries: more,
-                    } => {
-                        at = next;
-                        p = pend;
-                        l = left;
-                        entries = more;
-                    }
-                }
-            }
-        }
+    while let Some(more) = walk_strings::after_next(p, extra, l) {
+        let t = judge_text(s, at, role, slots, entries, window)?;
+        at = t.at;
+        entries = t.entries;
+        p = more.pend;
+        l = more.left;
     }
+    Ok(Series { at, entries })
 }
 
 // One string.
@@ -162,83 +127,64 @@ pub fn judge_text(
     slots: usize,
     n: usize,
     window: &mut [u64; 16],
-) -> Series
+) -> Result<Series, Refusal>
     ensures law { Takes s.now slots at (say (role_of role)) window.old n window.new result }
     ensures on { SeriesTook s.now at result }
 {
-    let t = pieces::text_at(s, at);
-    match t {
-        Text::Bad(r) => Series::Refused(r),
-        Text::Half { start, len } => Series::Refused(half_string(s, role, start, len)),
+    match pieces::text_at(s, at)? {
+        Text::Half { start, len } => Err(half_string(s, role, start, len)),
         Text::Whole { start, len, next } => {
-            let f = take_text(s, slots, n, role, start, len, window);
-            match f {
-                Taken::Refused(r) => Series::Refused(r),
-                Taken::Fine(entries) => Series::Past { at: next, entries },
-            }
+            let entries = take_text(s, slots, n, role, start, len, window)?;
+            Ok(Series { at: next, entries })
         }
     }
 }
 
 // A number that is dropped.
-pub fn drop_number(s: &[u8], at: usize, n: usize) -> Series
+pub fn drop_number(s: &[u8], at: usize, n: usize) -> Result<Series, Refusal>
     ensures law { (slots : ℕ) (w : List ℕ) → Takes s.now slots at (λ k. ask dropped (λ v. k tt)) w n w result }
     ensures on { SeriesTook s.now at result }
 {
-    let m = pieces::number_at(s, at);
-    match m {
-        Number::Short => Series::Refused(layouts::refuse(layouts::CUT_SHORT, at)),
-        Number::Value(_) => Series::Past {
-            at: at + 8,
-            entries: n,
-        },
-    }
+    pieces::number_or_cut(s, at)?;
+    Ok(Series {
+        at: at + 8,
+        entries: n,
+    })
 }
 
 // A chunk, with n bytes before it: 5, or the bytes with its own.
-fn take_chunk(room: usize, n: usize, start: usize, len: usize) -> Taken
+fn take_chunk(room: usize, n: usize, start: usize, len: usize) -> Result<usize, Refusal>
     ensures { (r : Record) → r.payload ≡ n → taken (with_payload r) result ≡ chunk_taken room r start len }
 {
-    let place = place_of(start);
+    // of its length
+    let place = start.saturating_sub(8);
     if room < n {
-        return Taken::Refused(layouts::refuse(layouts::NO_PAYLOAD_ROOM, place));
+        return Err(layouts::refuse(layouts::NO_PAYLOAD_ROOM, place));
     }
     if room - n < len {
-        return Taken::Refused(layouts::refuse(layouts::NO_PAYLOAD_ROOM, place));
+        return Err(layouts::refuse(layouts::NO_PAYLOAD_ROOM, place));
     }
-    Taken::Fine(n + len)
+    Ok(n + len)
 }
 
 // Chunks up to the empty one, with n bytes of payload before them: where they end, and the bytes then.
-pub fn judge_frames(s: &[u8], from: usize, room: usize, n: usize) -> Series
+pub fn judge_frames(s: &[u8], from: usize, room: usize, n: usize) -> Result<Series, Refusal>
     ensures law { TakesFrames s.now room from n result }
     ensures on { SeriesTook s.now from result }
 {
     let mut at = from;
     let mut total = n;
     loop {
-        let m = pieces::chunk_at(s, at);
-        match m {
-            Chunk::Wrong(r) => {
-                return Series::Refused(r);
-            }
+        match pieces::chunk_at(s, at)? {
             Chunk::Last(next) => {
-                return Series::Past {
+                return Ok(Series {
                     at: next,
                     entries: total,
-                };
+                });
             }
             Chunk::Part { start, len, next } => {
-                let t = take_chunk(room, total, start, len);
-                match t {
-                    Taken::Refused(r) => {
-                        return Series::Refused(r);
-                    }
-                    Taken::Fine(more) => {
-                        at = next;
-                        total = more;
-                    }
-                }
+                total = take_chunk(room, total, start, len)?;
+                at = next;
             }
         }
     }

@@ -25,17 +25,17 @@ use Rattle.table.specs.Packed.{framed_data}
 use Rattle.table.specs.Claims.{others}
 use Rattle.walk_items.specs.Items.{version_of, first_of}
 use Rattle.walk_items.proofs.Trees.{tree_of}
-use Rattle.walk_take.specs.declared.Series.{Series}
-use Rattle.walk_take.specs.declared.Series.TheVariants as O
 use Rattle.walk_take.specs.Taking.{TakesFrames, frames_to}
 use Rattle.walk_rooms.specs.Rooms.{filled_after}
 use Rattle.walk_rooms.proofs.Laws.{fitting}
 use Rattle.walk_fill.specs.There.{pieces_there}
 use Rattle.walk_fill.proofs.There.{layout_there}
 use Rattle.wire.specs.declared.Cursor.{Cursor}
-use Rattle.wire.specs.declared.Read.{Read}
-use Rattle.wire.specs.declared.Read.TheVariants as R
 use Rattle.wire.specs.Answers.{number_read, total_read, framed_payload}
+use Rattle.walk_take.specs.declared.Series.{Series}
+use Rattle.wire.specs.declared.Read.{Read}
+use Rattle.std.specs.Prelude as Std
+use Rattle.std.specs.Prelude.{Ok, Err}
 
 abbrev frames_from : List ℕ → (at : ℕ) → Pieces
 frames_from s at = run (frames (λ u. stop)) s at
@@ -48,16 +48,16 @@ abbrev paid : (total ends : ℕ) → Result Ended
 paid total ends = ok (record { found = with_payload blank total; ends = ends })
 
 -- ---- judged
-module _ (s : List ℕ) (at room : ℕ) (o : Series) (t : TakesFrames s room at 0 o) where
-  framed_as : (o' : Series) → o ≡ o' → frames_to s 0 room blank (λ u. stop) o' ≡ read_framed s at room
+module _ (s : List ℕ) (at room : ℕ) (o : Std.Result Series Refusal) (t : TakesFrames s room at 0 o) where
+  framed_as : (o' : Std.Result Series Refusal) → o ≡ o' → frames_to s 0 room blank (λ u. stop) o' ≡ read_framed s at room
   framed_as o' g = rw field_framed (sym (t.judges 0 (λ u. stop) blank refl ∙ ap (frames_to s 0 room blank (λ u. stop)) g))
 
-  pub framed_refused : (x : Refusal) → o ≡ O.Refused x → refused_by x ≡ read_framed s at room
-  framed_refused x g = framed_as (O.Refused x) g
+  pub framed_refused : (x : Refusal) → o ≡ Err x → refused_by x ≡ read_framed s at room
+  framed_refused x g = framed_as (Err x) g
 
-  pub framed_judged : (next total : ℕ) → o ≡ O.Past next total → paid total next ≡ read_framed s at room
+  pub framed_judged : (next total : ℕ) → o ≡ Ok (record { at = next; entries = total }) → paid total next ≡ read_framed s at room
   unfolding judge_of run
-  framed_judged next total g = framed_as (O.Past next total) g
+  framed_judged next total g = framed_as (Ok (record { at = next; entries = total })) g
 
 -- ---- skipping has no limit but the stream
 module _ (s : List ℕ) where
@@ -115,11 +115,11 @@ module _ (s : List ℕ) where
       ∙ total_on (skip_of (frames_from s at)) (total_of (frames_from s at)))
 
 -- the total of frames as number 0
-total_number : (r : Read) → number_read r ≡ onward (total_read r) numbered
-total_number (R.Value v next) = refl
-total_number (R.Refused r) = refl
+total_number : (r : Std.Result Read Refusal) → number_read r ≡ onward (total_read r) numbered
+total_number (Ok k) = refl
+total_number (Err r) = refl
 
-pub framed_skip : (s : List ℕ) (at : ℕ) (r : Read) → total_read r ≡ read_framed s at (length s) → number_read r ≡ skip_framed s at
+pub framed_skip : (s : List ℕ) (at : ℕ) (r : Std.Result Read Refusal) → total_read r ≡ read_framed s at (length s) → number_read r ≡ skip_framed s at
 framed_skip s at r e = total_number r ∙ ap (λ (o : Result Ended). onward o numbered) e ∙ skip_frames s at
 
 -- ---- then joined
@@ -134,17 +134,17 @@ module _ (s : List ℕ) (at : ℕ) (lent : List ℕ) where
       let j = (judge_read s 0 (length lent) blank (frames_from s at) x (rw field_framed at e)).fits (omega arith) (omega arith) in
       omega arith)
 
-  module _ (o : Read) (j : total_read o ≡ answer) where
-    told : (o' : Read) → o ≡ o' → total_read o' ≡ answer
+  module _ (o : Std.Result Read Refusal) (j : total_read o ≡ answer) where
+    told : (o' : Std.Result Read Refusal) → o ≡ o' → total_read o' ≡ answer
     told o' q = ap total_read (sym q) ∙ j
 
-    pub read_refused : (x : Refusal) → o ≡ R.Refused x → (refused_by x ≡ answer) × (lent ≡ lent_after answer (framed_payload s at) lent)
-    read_refused x q = let e = told (R.Refused x) q in (e, ap (λ (o : Result Ended). lent_after o (framed_payload s at) lent) e)
+    pub read_refused : (x : Refusal) → o ≡ Err x → (refused_by x ≡ answer) × (lent ≡ lent_after answer (framed_payload s at) lent)
+    read_refused x q = let e = told (Err x) q in (e, ap (λ (o : Result Ended). lent_after o (framed_payload s at) lent) e)
 
-    pub read_joined : (v : ℕ) (next : Cursor) → o ≡ R.Value v next → (l : ℕ) → (version_of l ≡ version 0 0) × (first_of l ≡ framed_data)
+    pub read_joined : (v : ℕ) (next : Cursor) → o ≡ Ok (record { value = v; next = next }) → (l : ℕ) → (version_of l ≡ version 0 0) × (first_of l ≡ framed_data)
         → (out : List ℕ) → out ≡ sets lent 0 (payload_of s (pieces_there l s at))
-        → (total_read (R.Value v next) ≡ answer) × (out ≡ lent_after answer (framed_payload s at) lent)
+        → (total_read (Ok (record { value = v; next = next })) ≡ answer) × (out ≡ lent_after answer (framed_payload s at) lent)
     read_joined v next q l w out h =
-        let e = told (R.Value v next) q in
+        let e = told (Ok (record { value = v; next = next })) q in
         let g = layout_there l (tree_of l (version 0 0) framed_data w ∙ sym others.chunks) s at 0 (length lent) blank _ (sym e) in
         (e, h ∙ ap (λ (p : Pieces). sets lent 0 (payload_of s p)) g ∙ ap (λ (o : Result Ended). filled_after o (framed_payload s at) lent) e ∙ fitting answer (framed_payload s at) lent framed_fits)

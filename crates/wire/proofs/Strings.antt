@@ -19,7 +19,8 @@ use Rattle.pieces.proofs.Numbers.{as_told}
 use Rattle.wire.specs.Answers.{spanned, read_bytes, read_text}
 use Rattle.wire.specs.declared.Cursor.{Cursor}
 use Rattle.wire.specs.declared.Spanned.{Spanned}
-use Rattle.wire.specs.declared.Spanned.TheVariants as S
+use Rattle.std.specs.Prelude as Std
+use Rattle.std.specs.Prelude.{Ok, Err}
 
 module _ (s : List ℕ) (at : ℕ) where
   bytes_by_lem : {t : Text} → TextView (length s) (number_at s at) at t
@@ -55,12 +56,12 @@ module _ (s : List ℕ) (at : ℕ) where
   ends_by (ok e) = refl
   ends_by (refused which place stream) = refl
 
-  module _ (r : Spanned) (e : spanned r ≡ string_at s false at) where
-    ends_is : (r' : Spanned) → r ≡ r' → onward (spanned r') (λ p. ok p.ends) ≡ skip_string s at
+  module _ (r : Std.Result Spanned Refusal) (e : spanned r ≡ string_at s false at) where
+    ends_is : (r' : Std.Result Spanned Refusal) → r ≡ r' → onward (spanned r') (λ p. ok p.ends) ≡ skip_string s at
     ends_is r' q = ap (λ (o : Result Span). onward o (λ p. ok p.ends)) (as_told spanned q e ∙ bytes_is) ∙ ends_by (skip_string s at)
 
-    pub skip_past : (start len : ℕ) (next : Cursor) → r ≡ S.Contents start len next → ok next.at ≡ skip_string s at
-    skip_past start len next q = ends_is (S.Contents start len next) q
+    pub skip_past : (start len : ℕ) (next : Cursor) → r ≡ Ok (record { start = start; len = len; next = next }) → ok next.at ≡ skip_string s at
+    skip_past start len next q = ends_is (Ok (record { start = start; len = len; next = next })) q
 
-    pub skip_refused : (x : Refusal) → r ≡ S.Refused x → refused_by x ≡ skip_string s at
-    skip_refused x q = ends_is (S.Refused x) q
+    pub skip_refused : (x : Refusal) → r ≡ Err x → refused_by x ≡ skip_string s at
+    skip_refused x q = ends_is (Err x) q

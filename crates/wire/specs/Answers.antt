@@ -9,43 +9,40 @@ use Rattle.layouts.specs.Judge.{Ended, entries_of, payload_of}
 use Rattle.layouts.specs.Calls.{field, skip_string, read_string, read_string_set}
 use Rattle.pieces.specs.Pieces.{Span, span}
 use Rattle.writers_output.specs.Numbers.{bytes_of}
-use Rattle.walk_rooms.specs.Rooms.{RoomsFilled, rooms_filled, LentRead, lent_read}
-use Rattle.entries.specs.Entries.{slots_in}
+use Rattle.walk_rooms.specs.Rooms.{RoomFilled, room_filled, LentRead, lent_read}
+use Rattle.wire.specs.declared.Cursor.{Cursor}
 use Rattle.wire.specs.declared.Read.{Read}
-use Rattle.wire.specs.declared.Read.TheVariants as R
-use Rattle.wire.specs.declared.Peeked.{Peeked}
-use Rattle.wire.specs.declared.Peeked.TheVariants as K
 use Rattle.wire.specs.declared.Spanned.{Spanned}
-use Rattle.wire.specs.declared.Spanned.TheVariants as S
-use Rattle.wire.specs.declared.Skipped.{Skipped}
-use Rattle.wire.specs.declared.Skipped.TheVariants as P
+use Rattle.std.specs.Prelude as Std
+use Rattle.layouts.specs.declared.Refusal.{Refusal}
+use Rattle.std.specs.Prelude.{Option, Some, None, Ok, Err}
 
 -- a number, the count of a skipped set, the total of skipped frames: number 0
-abbrev pub number_read : Read → Result Ended
-number_read (R.Value v next) = ok (record { found = with_number blank 0 v; ends = next.at })
-number_read (R.Refused r) = refused_by r
+abbrev pub number_read : Std.Result Read Refusal → Result Ended
+number_read (Ok k) = ok (record { found = with_number blank 0 k.value; ends = k.next.at })
+number_read (Err r) = refused_by r
 
 -- the count of a set: count 0, and as many entries
-abbrev pub count_read : Read → Result Ended
-count_read (R.Value v next) = ok (record { found = with_entries (with_count blank 0 v) v; ends = next.at })
-count_read (R.Refused r) = refused_by r
+abbrev pub count_read : Std.Result Read Refusal → Result Ended
+count_read (Ok k) = ok (record { found = with_entries (with_count blank 0 k.value) k.value; ends = k.next.at })
+count_read (Err r) = refused_by r
 
 -- the total of frames: so many bytes of payload
-abbrev pub total_read : Read → Result Ended
-total_read (R.Value v next) = ok (record { found = with_payload blank v; ends = next.at })
-total_read (R.Refused r) = refused_by r
+abbrev pub total_read : Std.Result Read Refusal → Result Ended
+total_read (Ok k) = ok (record { found = with_payload blank k.value; ends = k.next.at })
+total_read (Err r) = refused_by r
 
-abbrev pub peeked : Peeked → Num
-peeked (K.Some v) = value v
-peeked K.None = short
+abbrev pub peeked : Option ℕ → Num
+peeked (Some v) = value v
+peeked None = short
 
-abbrev pub skipped_to : Skipped → Result ℕ
-skipped_to (P.Past next) = ok next.at
-skipped_to (P.Refused r) = refused_by r
+abbrev pub skipped_to : Std.Result Cursor Refusal → Result ℕ
+skipped_to (Ok next) = ok next.at
+skipped_to (Err r) = refused_by r
 
-abbrev pub spanned : Spanned → Result Span
-spanned (S.Contents start len next) = ok (span start len next.at)
-spanned (S.Refused r) = refused_by r
+abbrev pub spanned : Std.Result Spanned Refusal → Result Span
+spanned (Ok k) = ok (span k.start k.len k.next.at)
+spanned (Err r) = refused_by r
 
 -- read_bytes and read_string answer start and length of the contents with the end
 abbrev pub read_bytes : List ℕ → (at : ℕ) → Result Span
@@ -61,9 +58,9 @@ set_entries s at = entries_of (run (field (set kept (as_count 0))) s at)
 abbrev pub framed_payload : List ℕ → (at : ℕ) → List ℕ
 framed_payload s at = payload_of s (run (field framed) s at)
 
--- ---- a set: the answer, and the entries afterwards. It has no payload
-abbrev pub set_filled : List ℕ → (at : ℕ) → (words bytes : List ℕ) → RoomsFilled (Result Ended)
-set_filled s at words bytes = rooms_filled (λ o. o) (read_string_set s at (slots_in words bytes)) (set_entries s at) [] words bytes []
+-- ---- a set: the answer, and the entries afterwards, in a form. It has no payload
+abbrev pub set_filled : {A : Type 0} → (form : List ℕ → List A) → List ℕ → (at slots : ℕ) → (lent : List A) → RoomFilled (Result Ended) A
+set_filled form s at slots lent = room_filled (λ o. o) (read_string_set s at slots) (form (set_entries s at)) [] lent []
 
 abbrev pub set_read : List ℕ → (at : ℕ) → (entries : List ℕ) → LentRead (Result Ended)
 set_read s at entries = lent_read (λ o. o) (read_string_set s at (length entries / 2)) (set_entries s at) [] entries []

@@ -9,10 +9,7 @@ ghost use Rattle.wire.specs.Answers.{number_read, count_read, total_read, peeked
 ghost use Rattle.pieces.specs.Pieces.{string_at};
 
 use layouts::Refusal;
-use numbers::Number;
-use pieces::Verdict;
-use walk_strings::Passed;
-use walk_take::Series;
+use walk_rooms::Room;
 
 #[derive(Clone, Copy)]
 pub struct Cursor {
@@ -20,162 +17,107 @@ pub struct Cursor {
 }
 
 // A number: the one that stands there, a count or a total.
-#[derive(Drop)]
-pub enum Read {
-    Value { value: u64, next: Cursor },
-    Refused(Refusal),
-}
-
-#[derive(Drop)]
-pub enum Peeked {
-    Some(u64),
-    None,
+#[derive(Clone, Copy)]
+pub struct Read {
+    pub value: u64,
+    pub next: Cursor,
 }
 
 // A string, by start and length of its contents in the stream.
-#[derive(Drop)]
-pub enum Spanned {
-    Contents {
-        start: usize,
-        len: usize,
-        next: Cursor,
-    },
-    Refused(Refusal),
-}
-
-#[derive(Drop)]
-pub enum Skipped {
-    Past(Cursor),
-    Refused(Refusal),
+#[derive(Clone, Copy)]
+pub struct Spanned {
+    pub start: usize,
+    pub len: usize,
+    pub next: Cursor,
 }
 
 // A string, with the cursor after it.
-fn string_at(s: &[u8], at: usize, decoded: bool) -> Spanned
+fn string_at(s: &[u8], at: usize, decoded: bool) -> Result<Spanned, Refusal>
     ensures { spanned result ≡ string_at s.now decoded at }
 {
-    match pieces::string_at(s, at, decoded) {
-        Verdict::Fine { start, len, next } => Spanned::Contents {
-            start,
-            len,
-            next: Cursor { at: next },
-        },
-        Verdict::Refused(r) => Spanned::Refused(r),
-    }
+    let c = pieces::string_at(s, at, decoded)?;
+    Ok(Spanned {
+        start: c.start,
+        len: c.len,
+        next: Cursor { at: c.next },
+    })
 }
 
 // A set's count and its strings, with so many slots for entries.
-fn judge_set(s: &[u8], at: usize, slots: usize) -> Read
+fn judge_set(s: &[u8], at: usize, slots: usize) -> Result<Read, Refusal>
     ensures { count_read result ≡ read_string_set s.now at slots }
 {
-    match pieces::number_at(s, at) {
-        Number::Short => Read::Refused(layouts::refuse(layouts::CUT_SHORT, at)),
-        Number::Value(kept) => {
-            let first = at + 8;
-            let mut window = [0u64; 16];
-            match walk_take::judge_series(
-                s,
-                first,
-                table::KEPT,
-                0,
-                0,
-                kept,
-                slots,
-                0,
-                &mut window,
-            ) {
-                Series::Refused(r) => Read::Refused(r),
-                Series::Past {
-                    at: next,
-                    entries: _,
-                } => Read::Value {
-                    value: kept,
-                    next: Cursor { at: next },
-                },
-            }
-        }
-    }
+    let value = pieces::number_or_cut(s, at)?;
+    let first = at + 8;
+    let mut window = [0u64; 16];
+    let t = walk_take::judge_series(s, first, table::KEPT, 0, 0, value, slots, 0, &mut window)?;
+    Ok(Read {
+        value,
+        next: Cursor { at: t.at },
+    })
 }
 
-// A set, with entries as numbers or as bytes: the other room is lent empty. All is judged before entries are written: a refusal changes nothing.
-fn read_set(s: &[u8], at: usize, words: &mut [u64], bytes: &mut [u8]) -> Read
-    ensures answer { count_read result ≡ (set_filled s.now at words.old bytes.old).answer }
-    ensures words { words.new ≡ (set_filled s.now at words.old bytes.old).words }
-    ensures bytes { bytes.new ≡ (set_filled s.now at words.old bytes.old).bytes }
+// A set, with entries as numbers or as bytes. All is judged before entries are written: a refusal changes nothing.
+fn read_set<T: Room>(s: &[u8], at: usize, entries: &mut [T]) -> Result<Read, Refusal>
+    ensures answer { count_read result ≡ (set_filled T.laid s.now at (T.slots entries.old) entries.old).answer }
+    ensures entries { entries.new ≡ (set_filled T.laid s.now at (T.slots entries.old) entries.old).entries }
 {
-    match judge_set(s, at, entries::slots(words, bytes)) {
-        Read::Refused(r) => Read::Refused(r),
-        Read::Value { value, next } => {
-            let layout = walk_items::layout(0, 0, table::STRING_SET);
-            walk_fill::fill_entries(s, at, layout, words, 0, bytes, 0);
-            Read::Value { value, next }
-        }
-    }
+    let k = judge_set(s, at, T::slots(entries))?;
+    let layout = walk_items::layout(0, 0, table::STRING_SET);
+    walk_fill::fill_entries(s, at, layout, entries, 0);
+    Ok(k)
 }
 
 // The chunks up to the empty one, and their total, with so much room for payload.
-fn judge_framed(s: &[u8], at: usize, room: usize) -> Read
+fn judge_framed(s: &[u8], at: usize, room: usize) -> Result<Read, Refusal>
     ensures { total_read result ≡ read_framed s.now at room }
 {
-    match walk_take::judge_frames(s, at, room, 0) {
-        Series::Refused(r) => Read::Refused(r),
-        Series::Past {
-            at: next,
-            entries: total,
-        } => Read::Value {
-            value: total as u64,
-            next: Cursor { at: next },
-        },
-    }
+    let t = walk_take::judge_frames(s, at, room, 0)?;
+    Ok(Read {
+        value: t.entries as u64,
+        next: Cursor { at: t.at },
+    })
 }
 
 impl Cursor {
-    pub fn read_u64(self, s: &[u8]) -> Read
+    pub fn read_u64(self, s: &[u8]) -> Result<Read, Refusal>
         ensures { number_read result ≡ read_number s.now self.at }
     {
-        let at = self.at;
-        match pieces::number_at(s, at) {
-            Number::Value(n) => Read::Value {
-                value: n,
-                next: Cursor { at: at + 8 },
-            },
-            Number::Short => Read::Refused(layouts::refuse(layouts::CUT_SHORT, at)),
-        }
+        let value = pieces::number_or_cut(s, self.at)?;
+        Ok(Read {
+            value,
+            next: Cursor { at: self.at + 8 },
+        })
     }
 
     // A u32 answers as a number too: it has the same meaning.
-    pub fn read_u32(self, s: &[u8]) -> Read
+    pub fn read_u32(self, s: &[u8]) -> Result<Read, Refusal>
         ensures { number_read result ≡ read_u32 s.now self.at }
     {
-        let at = self.at;
-        match pieces::four_at(s, at) {
-            Number::Value(small) => Read::Value {
-                value: small,
-                next: Cursor { at: at + 4 },
-            },
-            Number::Short => Read::Refused(layouts::refuse(layouts::CUT_SHORT, at)),
-        }
+        let Some(value) = pieces::four_at(s, self.at) else {
+            return Err(layouts::refuse(layouts::CUT_SHORT, self.at));
+        };
+        Ok(Read {
+            value,
+            next: Cursor { at: self.at + 4 },
+        })
     }
 
     // Nothing is consumed: the stderr loop looks at a number before it takes it.
-    pub fn peek_u64(self, s: &[u8]) -> Peeked
+    pub fn peek_u64(self, s: &[u8]) -> Option<u64>
         ensures { peeked result ≡ peek_number s.now self.at }
     {
-        let at = self.at;
-        match pieces::number_at(s, at) {
-            Number::Value(n) => Peeked::Some(n),
-            Number::Short => Peeked::None,
-        }
+        pieces::number_at(s, self.at)
     }
 
-    pub fn read_bytes(self, s: &[u8]) -> Spanned
+    pub fn read_bytes(self, s: &[u8]) -> Result<Spanned, Refusal>
         ensures answer { spanned result ≡ read_bytes s.now self.at }
         ensures held { Held s.now }
     {
-        let at = self.at;
-        string_at(s, at, false)
+        string_at(s, self.at, false)
     }
 
-    pub fn read_string(self, s: &[u8]) -> Spanned
+    pub fn read_string(self, s: &[u8]) -> Result<Spanned, Refusal>
         ensures answer { spanned result ≡ read_text s.now self.at }
         ensures held { Held s.now }
     {
@@ -183,77 +125,56 @@ impl Cursor {
     }
 
     // No text is looked at.
-    pub fn skip_string(self, s: &[u8]) -> Skipped
+    pub fn skip_string(self, s: &[u8]) -> Result<Cursor, Refusal>
         ensures { skipped_to result ≡ skip_string s.now self.at }
     {
-        match string_at(s, self.at, false) {
-            Spanned::Contents {
-                start: _,
-                len: _,
-                next,
-            } => Skipped::Past(next),
-            Spanned::Refused(r) => Skipped::Refused(r),
-        }
+        let k = string_at(s, self.at, false)?;
+        Ok(k.next)
     }
 
     // Answers the count; start and length of each string stand in the room.
-    pub fn read_string_set(self, s: &[u8], entries: &mut [u64]) -> Read
+    pub fn read_string_set(self, s: &[u8], entries: &mut [u64]) -> Result<Read, Refusal>
         ensures answer { count_read result ≡ (set_read s.now self.at entries.old).answer }
         ensures room { entries.new ≡ (set_read s.now self.at entries.old).entries }
         ensures held { Held s.now }
     {
-        let mut none: [u8; 0] = [];
-        read_set(s, self.at, entries, &mut none)
+        read_set(s, self.at, entries)
     }
 
     // The same with entries of sixteen bytes.
-    pub fn read_string_set_bytes(self, s: &[u8], entries: &mut [u8]) -> Read
+    pub fn read_string_set_bytes(self, s: &[u8], entries: &mut [u8]) -> Result<Read, Refusal>
         ensures answer { count_read result ≡ (set_read_bytes s.now self.at entries.old).answer }
         ensures room { entries.new ≡ (set_read_bytes s.now self.at entries.old).entries }
         ensures held { Held s.now }
     {
-        let mut none: [u64; 0] = [];
-        read_set(s, self.at, &mut none, entries)
+        read_set(s, self.at, entries)
     }
 
     // Answers the count.
-    pub fn skip_string_set(self, s: &[u8]) -> Read
+    pub fn skip_string_set(self, s: &[u8]) -> Result<Read, Refusal>
         ensures { number_read result ≡ skip_string_set s.now self.at }
     {
-        let at = self.at;
-        match pieces::number_at(s, at) {
-            Number::Short => Read::Refused(layouts::refuse(layouts::CUT_SHORT, at)),
-            Number::Value(count) => {
-                let first = at + 8;
-                match walk_strings::pass(s, first, 0, 0, count) {
-                    Passed::Refused(r) => Read::Refused(r),
-                    Passed::Past(next) => Read::Value {
-                        value: count,
-                        next: Cursor { at: next },
-                    },
-                }
-            }
-        }
+        let value = pieces::number_or_cut(s, self.at)?;
+        let next = walk_strings::pass(s, self.at + 8, 0, 0, value)?;
+        Ok(Read {
+            value,
+            next: Cursor { at: next },
+        })
     }
 
     // Answers the payload's length; the chunks, joined, stand in the room. All is judged before anything is written.
-    pub fn read_framed(self, s: &[u8], out: &mut [u8]) -> Read
+    pub fn read_framed(self, s: &[u8], out: &mut [u8]) -> Result<Read, Refusal>
         ensures answer { total_read result ≡ read_framed s.now self.at (length out.old) }
         ensures room { out.new ≡ lent_after (read_framed s.now self.at (length out.old)) (framed_payload s.now self.at) out.old }
     {
-        let at = self.at;
-        match judge_framed(s, at, out.len()) {
-            Read::Refused(r) => Read::Refused(r),
-            Read::Value { value, next } => {
-                let layout = walk_items::layout(0, 0, table::FRAMED_DATA);
-                walk_fill::fill_payload(s, at, layout, out);
-                Read::Value { value, next }
-            }
-        }
+        let k = judge_framed(s, self.at, out.len())?;
+        let layout = walk_items::layout(0, 0, table::FRAMED_DATA);
+        walk_fill::fill_payload(s, self.at, layout, out);
+        Ok(k)
     }
 
     // Answers the payload's length. The stream itself is room enough for all its chunks.
-    pub fn skip_framed(self, s: &[u8]) -> Read
+    pub fn skip_framed(self, s: &[u8]) -> Result<Read, Refusal>
         ensures { number_read result ≡ skip_framed s.now self.at }
     {
         judge_framed(s, self.at, s.len())

@@ -3,7 +3,7 @@ use Prim.Native.Nat.{ℕ, zero, suc, ◌+◌, ◌-◌, ◌≤◌, ◌<◌, min}
 use mathlib.Core.Path.{◌≡◌, refl, sym, ap, ◌∙◌}
 use mathlib.Core.List.{List, [], ◌∷◌, ◌++◌, append_assoc}
 use lib.ListN.{length, take, drop, length-append, length-take, length-drop, drop_of_length-le}
-use lib.Seq.{length-take-le, take_all, drop-drop}
+use lib.Seq.{take_all, take-append_seam, drop-append_seam}
 use native.Mathlib.Omega.{arith}
 use native.Mathlib.Decide.{dec_le}
 use Rattle.layouts.specs.Primitive.{number_bytes}
@@ -11,7 +11,7 @@ use Rattle.layouts.specs.Writers.{chunks_bytes, framed_bytes}
 use Rattle.layouts.proofs.Little.{length_number}
 use Rattle.writers.specs.Framed.{framed_length}
 use Rattle.writers_output.specs.Placed.{placed}
-use Rattle.writers_output.proofs.Laws.{Filling, filling_turn, filling_room}
+use Rattle.writers_output.proofs.Laws.{Filling, filling_turn}
 
 -- any bound that is large enough will do
 chunks_same : (f g : ℕ) (c : List ℕ) → length c ≤ f → length c ≤ g → chunks_bytes f c ≡ chunks_bytes g c
@@ -76,42 +76,22 @@ drop_least k n l e = go (dec_le k (length l))
     go (yes h) = let q : n ≡ k = omega arith in ap (λ (j : ℕ). drop j l) q
     go (no h) = drop_of_length-le l {i = n} (omega arith) ∙ sym (drop_of_length-le l {i = k} (omega arith))
 
-module _ (c : List ℕ) (i n : ℕ) (h : i < length c) (e : n ≡ min 32768 (length c - i)) where
-  framed_chunk : framed_bytes (drop i c) ≡ (number_bytes n ++ take n (drop i c)) ++ framed_bytes (drop (i + n) c)
-  framed_chunk =
-      let d = length-drop i c in
-      let m : n ≡ min 32768 (length (drop i c)) = omega arith in
-      let t : length (take n (drop i c)) ≡ n = length-take-le n (drop i c) (omega arith) in
-      framed_more (drop i c) (omega arith) ∙ simp (sym (take_least 32768 n (drop i c) m), t, sym (drop_least 32768 n (drop i c) m), drop-drop)
+module _ (c s : List ℕ) (o₀ o : List ℕ) (at : ℕ) (f : Filling o₀ 0 (framed_bytes c) o at (framed_bytes s)) where
+  module _ (x rest : List ℕ) (e : s ≡ x ++ rest) (l : length x ≡ min 32768 (length s)) (h : 0 < length s) where
+    is_first : take 32768 s ≡ x
+    is_first = sym (take_least 32768 (length x) s l) ∙ rw e (take-append_seam x rest)
 
-  chunk_length : length (number_bytes n ++ take n (drop i c)) ≡ 8 + n
-  chunk_length =
-      let d = length-drop i c in
-      simp (length-append, length_number, length-take) (omega arith)
+    are_left : drop 32768 s ≡ rest
+    are_left = sym (drop_least 32768 (length x) s l) ∙ rw e (drop-append_seam x rest)
 
-pub chunk_put : (o o' c : List ℕ) (at i n : ℕ) → i + n ≤ length c → o' ≡ placed at (number_bytes (length (take n (drop i c))) ++ take n (drop i c)) o
-    → o' ≡ placed at (number_bytes n ++ take n (drop i c)) o
-chunk_put o o' c at i n h e =
-    let d = length-drop i c in
-    let l : length (take n (drop i c)) ≡ n = length-take-le n (drop i c) (omega arith) in
-    e ∙ ap (λ (k : ℕ). placed at (number_bytes k ++ take n (drop i c)) o) l
+    framed_chunk : framed_bytes s ≡ (number_bytes (length x) ++ x) ++ framed_bytes rest
+    framed_chunk = framed_more s h ∙ simp (is_first, are_left)
 
-module _ (c : List ℕ) (i n : ℕ) (h : i < length c) (e : n ≡ min 32768 (length c - i)) (o₀ o : List ℕ) (at : ℕ) (f : Filling o₀ 0 (framed_bytes c) o at (framed_bytes (drop i c))) where
-  pub framed_room : at + 8 + n ≤ length o
-  framed_room =
-      let l = chunk_length c i n h e in
-      let r = filling_room o₀ 0 (framed_bytes c) o at (framed_bytes (drop i c)) f (number_bytes n ++ take n (drop i c)) (framed_bytes (drop (i + n) c)) (framed_chunk c i n h e) in
-      omega arith
+    pub framed_turn : (o' : List ℕ) → o' ≡ placed at (number_bytes (length x) ++ x) o → Filling o₀ 0 (framed_bytes c) o' (at + (8 + length x)) (framed_bytes rest)
+    framed_turn o' g =
+        let m = length_number (length x) in
+        filling_turn o₀ 0 (framed_bytes c) o at (framed_bytes s) f (number_bytes (length x) ++ x) (framed_bytes rest) framed_chunk
+        o' (at + (8 + length x)) (simp length-append (omega arith)) g
 
-  pub framed_turn : (o' : List ℕ) (m : ℕ) → m ≡ n → o' ≡ placed at (number_bytes m ++ take m (drop i c)) o → Filling o₀ 0 (framed_bytes c) o' (at + 8 + n) (framed_bytes (drop (i + n) c))
-  framed_turn o' m q g =
-      let l = chunk_length c i n h e in
-      filling_turn o₀ 0 (framed_bytes c) o at (framed_bytes (drop i c)) f (number_bytes n ++ take n (drop i c)) (framed_bytes (drop (i + n) c)) (framed_chunk c i n h e)
-      o' (at + 8 + n) (omega arith) (g ∙ ap (λ (k : ℕ). placed at (number_bytes k ++ take k (drop i c)) o) q)
-
-module _ (c : List ℕ) (i : ℕ) (h : length c ≤ i) (o₀ o : List ℕ) (at : ℕ) (f : Filling o₀ 0 (framed_bytes c) o at (framed_bytes (drop i c))) where
-  last : framed_bytes (drop i c) ≡ number_bytes 0
-  last = framed_none (drop i c) (simp length-drop (omega arith))
-
-  pub framed_end : (o' : List ℕ) → o' ≡ placed at (number_bytes 0) o → o' ≡ placed 0 (framed_bytes c) o₀
-  framed_end o' g = g ∙ ap (λ (x : List ℕ). placed at x o) (sym last) ∙ f.same
+  pub framed_end : length s ≡ 0 → (o' : List ℕ) → o' ≡ placed at (number_bytes 0) o → o' ≡ placed 0 (framed_bytes c) o₀
+  framed_end h o' g = g ∙ ap (λ (x : List ℕ). placed at x o) (sym (framed_none s h)) ∙ f.same

@@ -1,6 +1,6 @@
 #![tactic(auto)]
 // Writers of numbers, strings and framed data. Each puts its whole output at the start of the lent bytes and answers its length, or refuses and changes nothing.
-ghost use Rattle.std.specs.Prelude.{◌≡◌, ◌++◌, ◌+◌, ◌-◌, ◌≤◌, ◌<◌, min, length, take, drop};
+ghost use Rattle.std.specs.Prelude.{◌≡◌, ◌≤◌, ◌<◌, length};
 ghost use Rattle.layouts.specs.Primitive.{little_end, number_bytes};
 ghost use Rattle.layouts.specs.Judge.{lent_after};
 ghost use Rattle.layouts.specs.Writers.{writing, string_bytes, framed_bytes, write_string};
@@ -17,9 +17,9 @@ pub fn write_u64(out: &mut [u8], x: u64) -> Written
     ensures lent { out.new ≡ after_writing (number_bytes x) out.old }
 {
     if numbers::write(out, x) {
-        return Written::Length(8);
+        return Ok(8);
     }
-    Written::Refused(layouts::refuse(layouts::OUTPUT_FULL, 0))
+    Err(layouts::refuse(layouts::OUTPUT_FULL, 0))
 }
 
 pub fn write_u32(out: &mut [u8], x: u32) -> Written
@@ -27,9 +27,9 @@ pub fn write_u32(out: &mut [u8], x: u32) -> Written
     ensures lent { out.new ≡ after_writing (little_end 4 x) out.old }
 {
     if numbers::write_four(out, x as u64) {
-        return Written::Length(4);
+        return Ok(4);
     }
-    Written::Refused(layouts::refuse(layouts::OUTPUT_FULL, 0))
+    Err(layouts::refuse(layouts::OUTPUT_FULL, 0))
 }
 
 pub fn write_bytes(out: &mut [u8], c: &[u8]) -> Written
@@ -38,10 +38,10 @@ pub fn write_bytes(out: &mut [u8], c: &[u8]) -> Written
 {
     let n = writers_output::string_length(c);
     if out.len() < n {
-        return Written::Refused(layouts::refuse(layouts::OUTPUT_FULL, 0));
+        return Err(layouts::refuse(layouts::OUTPUT_FULL, 0));
     }
     writers_output::put_string(out, 0, c);
-    Written::Length(n)
+    Ok(n)
 }
 
 pub fn write_string(out: &mut [u8], c: &[u8]) -> Written
@@ -51,7 +51,7 @@ pub fn write_string(out: &mut [u8], c: &[u8]) -> Written
     if text::is_text(c) {
         return write_bytes(out, c);
     }
-    Written::Refused(layouts::refuse(layouts::BAD_TEXT, 0))
+    Err(layouts::refuse(layouts::BAD_TEXT, 0))
 }
 
 // Eight bytes before each chunk, and the zero at the end.
@@ -69,34 +69,14 @@ pub fn framed_size(c: &[u8]) -> usize
     framed_length(c.len())
 }
 
-fn least(a: usize, b: usize) -> usize
-    ensures { result ≡ min a b }
-{
-    if a < b {
-        return a;
-    }
-    b
-}
-
-fn put_chunk(out: &mut [u8], at: usize, c: &[u8], from: usize, to: usize)
-    requires { (from ≤ to) × (to ≤ length c.now) }
-    ensures { out.new ≡ placed at (number_bytes (to - from) ++ take (to - from) (drop from c.now)) out.old }
-{
-    writers_output::put_counted(out, at, &c[from..to]);
-}
-
 fn put_framed(out: &mut [u8], c: &[u8])
     requires { length (framed_bytes c.now) ≤ length out.old }
     ensures { out.new ≡ placed 0 (framed_bytes c.now) out.old }
 {
     let mut at = 0;
-    let mut i = 0;
-    while i < c.len() {
-        let n = least(32768, c.len() - i);
-        let e = i + n;
-        put_chunk(out, at, c, i, e);
-        at = at + 8 + n;
-        i = e;
+    for chunk in c.chunks(32768) {
+        writers_output::put_counted(out, at, chunk);
+        at += 8 + chunk.len();
     }
     writers_output::put_number(out, at, 0);
 }
@@ -107,8 +87,8 @@ pub fn write_framed(out: &mut [u8], c: &[u8]) -> Written
 {
     let n = framed_length(c.len());
     if out.len() < n {
-        return Written::Refused(layouts::refuse(layouts::OUTPUT_FULL, 0));
+        return Err(layouts::refuse(layouts::OUTPUT_FULL, 0));
     }
     put_framed(out, c);
-    Written::Length(n)
+    Ok(n)
 }

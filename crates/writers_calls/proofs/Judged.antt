@@ -18,8 +18,6 @@ use Rattle.layouts.specs.CallWriter.{value_for, is_of_shape, strings_in, entries
 use Rattle.layouts.proofs.Little.{length_number}
 use Rattle.layouts.proofs.Writers.{texts_told, onward_ok, pick_ok}
 use Rattle.layouts_calls.proofs.CallTrips.{total, entries_total}
-use Rattle.writers_output.specs.declared.Written.{Written}
-use Rattle.writers_output.specs.declared.Written.TheVariants as W
 use Rattle.writers_output.specs.Answer.{meaning}
 use Rattle.writers_output.specs.Placed.{placed}
 use Rattle.writers_output.proofs.Laws.{done}
@@ -28,6 +26,7 @@ use Rattle.writers_sets.proofs.Sets.{grown_fits, texts_parts}
 use Rattle.writers_fields.specs.declared.Needs.{Needs}
 use Rattle.writers_fields.specs.Fields.{bytes_of, bytes_after}
 use Rattle.writers_calls.specs.Calls.{fields_from, Planned, bytes_or, after_bytes}
+use Rattle.std.specs.Prelude.{Ok, Err}
 
 -- ---- how long the fields are
 unfoldable sum_of : (framed : ℕ) → List What → ℕ
@@ -119,15 +118,15 @@ module _ (ns p b es : List ℕ) (ws : List What) (lent : List ℕ) (small : leng
   module _ (x : Needs) (slots : ℕ) (es# : slots ≡ slots_of es)
       (e : meaning x.entries ≡ pick (is_of_shape ns p ws) (entries_for ns slots 0 ws) (refused not_of_shape 0 0))
       (f : x.bytes ≡ pick (is_of_shape ns p ws) (bytes_after (length lent) (length (framed_bytes p)) 0 ws) 0) where
-    pub judged_refused : (r : Refusal) → x.entries ≡ W.Refused r → meaning x.entries ≡ write_bytes Fields lent
-    judged_refused r q = ap meaning q ∙ go (is_of_shape ns p ws) (sym (ap meaning q) ∙ e ∙ ap (λ (k : ℕ). pick (is_of_shape ns p ws) (entries_for ns k 0 ws) (refused not_of_shape 0 0)) es#)
+    pub judged_refused : (r : Refusal) → x.entries ≡ Err r → refused_by r ≡ write_bytes Fields lent
+    judged_refused r q = go (is_of_shape ns p ws) (sym (ap meaning q) ∙ e ∙ ap (λ (k : ℕ). pick (is_of_shape ns p ws) (entries_for ns k 0 ws) (refused not_of_shape 0 0)) es#)
       where
         go : (c : Bool) → refused_by r ≡ pick c (entries_for ns (slots_of es) 0 ws) (refused not_of_shape 0 0)
             → refused_by r ≡ write_bytes (pick c (onward (onward (entries_for ns (slots_of es) 0 ws) (λ n. texts_from b es n 0)) (λ cs. ok (fields_bytes ns p cs ws))) (refused not_of_shape 0 0)) lent
         go true h = rw (← h)
         go false h = h
 
-    pub judged_fine : (n : ℕ) → x.entries ≡ W.Length n → (o : Result ℕ) → o ≡ strings_judged (length lent) x.bytes (texts_from b es n 0) → o ≡ write_bytes Fields lent
+    pub judged_fine : (n : ℕ) → x.entries ≡ Ok n → (o : Result ℕ) → o ≡ strings_judged (length lent) x.bytes (texts_from b es n 0) → o ≡ write_bytes Fields lent
     judged_fine n q o g =
         go (is_of_shape ns p ws) f (sym (ap meaning q) ∙ e ∙ ap (λ (k : ℕ). pick (is_of_shape ns p ws) (entries_for ns k 0 ws) (refused not_of_shape 0 0)) es#)
       where
@@ -137,12 +136,12 @@ module _ (ns p b es : List ℕ) (ws : List What) (lent : List ℕ) (small : leng
         go false h k = let z : ◌≡◌ {A = ℕ} 0 1 = cc in absurd (omega arith)
 
 -- ---- what is judged fine is put
-module _ (ns p b es : List ℕ) (ws : List What) (lent : List ℕ) (w : Written) (e : meaning w ≡ write_bytes (shape_bytes ns b es p ws) lent) where
-  abbrev Answer : List ℕ → Type 0
-  Answer lent' = (meaning w ≡ write_bytes (shape_bytes ns b es p ws) lent) × (lent' ≡ after_bytes (shape_bytes ns b es p ws) lent)
+module _ (ns p b es : List ℕ) (ws : List What) (lent : List ℕ) where
+  abbrev Answer : Result ℕ → List ℕ → Type 0
+  Answer o lent' = (o ≡ write_bytes (shape_bytes ns b es p ws) lent) × (lent' ≡ after_bytes (shape_bytes ns b es p ws) lent)
 
-  pub fields_refused : (r : Refusal) → w ≡ W.Refused r → Answer lent
-  fields_refused r q = (e, ap (λ (x : Result ℕ). lent_after x (bytes_or (shape_bytes ns b es p ws)) lent) (sym (ap meaning q) ∙ e))
+  pub fields_refused : (r : Refusal) → refused_by r ≡ write_bytes (shape_bytes ns b es p ws) lent → Answer (refused_by r) lent
+  fields_refused r e = (e, ap (λ (x : Result ℕ). lent_after x (bytes_or (shape_bytes ns b es p ws)) lent) e)
 
   -- the fields were judged, and these are they
   record Fine (n : ℕ) : Type 0 where
@@ -152,19 +151,22 @@ module _ (ns p b es : List ℕ) (ws : List What) (lent : List ℕ) (w : Written)
     pub size : n ≡ length (fields_from ns p b es 0 ws)
     pub fits : n ≤ length lent
 
-  fine : (n : ℕ) → w ≡ W.Length n → Fine n
+  are_parts : (n : ℕ) (cs : List (List ℕ)) → texts_from b es n 0 ≡ ok cs → n ≡ total ns ws → fields_bytes ns p cs ws ≡ fields_from ns p b es 0 ws
+  are_parts n cs e k =
+      ap (λ (ds : List (List ℕ)). fields_bytes ns p ds ws) (texts_parts b es n 0 cs e) ∙ ap (λ (j : ℕ). fields_bytes ns p (parts_from b es j 0) ws) k ∙ fields_from_lem ns p b es ws 0
+
+  fine : (n : ℕ) → ok n ≡ write_bytes (shape_bytes ns b es p ws) lent → Fine n
   unfolding writing
-  fine n q =
-      let o = onward_ok (shape_bytes ns b es p ws) (λ o. writing o lent) n (sym e ∙ ap meaning q) in
+  fine n e =
+      let o = onward_ok (shape_bytes ns b es p ws) (λ o. writing o lent) n (sym e) in
       let l = pick_ok (leb (length o.0) (length lent)) 10 0 (ok (length o.0)) n o.2 in
       let s = pick_ok (is_of_shape ns p ws) not_of_shape 0 (onward (onward (entries_for ns (slots_of es) 0 ws) (λ n. texts_from b es n 0)) (λ cs. ok (fields_bytes ns p cs ws))) o.0 o.1 in
       let t = onward_ok (onward (entries_for ns (slots_of es) 0 ws) (λ n. texts_from b es n 0)) (λ cs. ok (fields_bytes ns p cs ws)) o.0 s.1 in
       let u = onward_ok (entries_for ns (slots_of es) 0 ws) (λ n. texts_from b es n 0) t.0 t.1 in
       let m = entries_total ns (slots_of es) 0 u.0 ws u.1 in
       let k : u.0 ≡ total ns ws = omega arith in
-      let y : fields_bytes ns p t.0 ws ≡ fields_from ns p b es 0 ws =
-      ap (λ (cs : List (List ℕ)). fields_bytes ns p cs ws) (texts_parts b es u.0 0 t.0 u.2) ∙ ap (λ (j : ℕ). fields_bytes ns p (parts_from b es j 0) ws) k ∙ fields_from_lem ns p b es ws 0 in
-      let v : o.0 ≡ fields_from ns p b es 0 ws = let z = t.2 in let z' : fields_bytes ns p t.0 ws ≡ o.0 = cc in sym z' ∙ y in
+      let z : fields_bytes ns p t.0 ws ≡ o.0 = let z' = t.2 in cc in
+      let v : o.0 ≡ fields_from ns p b es 0 ws = sym z ∙ are_parts u.0 t.0 u.2 k in
       let g : length o.0 ≡ n = let z = l.1 in cc in
       let h = leb-true (length o.0) (length lent) l.0 in
       record {
@@ -175,18 +177,18 @@ module _ (ns p b es : List ℕ) (ws : List What) (lent : List ℕ) (w : Written)
         fits = omega arith;
       }
 
-  module _ (n : ℕ) (q : w ≡ W.Length n) where
+  module _ (n : ℕ) (e : ok n ≡ write_bytes (shape_bytes ns b es p ws) lent) where
     pub fields_planned : Planned ns p b es (length lent) ws
     fields_planned =
-        let f = fine n q in
+        let f = fine n e in
         record {
           used = f.used;
           entries = f.entries;
           room = omega (arith, f.size, f.fits);
         }
 
-    pub fields_done : (lent' : List ℕ) → lent' ≡ placed 0 (fields_from ns p b es 0 ws) lent → Answer lent'
+    pub fields_done : (lent' : List ℕ) → lent' ≡ placed 0 (fields_from ns p b es 0 ws) lent → Answer (ok n) lent'
     fields_done lent' g =
-        let f = fine n q in
+        let f = fine n e in
         let d = done (fields_from ns p b es 0 ws) lent lent' n f.size f.fits g in
         (e, d.1 ∙ rw f.bytes)

@@ -1,24 +1,43 @@
 -- The fifteen numbers of a call, from lent bytes.
-use Prim.Native.Nat.{ℕ, ◌+◌, ◌*◌}
-use mathlib.Core.Path.{◌≡◌}
+use Prim.Native.Nat.{ℕ, zero, suc, ◌+◌, ◌-◌, ◌*◌, ◌^◌, ◌≤◌, ◌<◌}
+use Prim.Native.Nat.pow
+use mathlib.Core.Path.{◌≡◌, ◌∙◌}
 use mathlib.Core.List.{List, [], ◌∷◌}
 use lib.ListN.{get_or}
 use native.Mathlib.Omega.{arith}
 use Rattle.layouts.specs.Primitive.{little_at, number_at}
+use Rattle.layouts.specs.Demands.{Bytes}
+use Rattle.layouts.proofs.Little.{little_small}
 use Rattle.entries.specs.Entries.{numbers_from}
 
-pub low_is : (s : List ℕ) (at : ℕ) (a b c d e f g h : ℕ) → a ≡ get_or s at 0 → b ≡ get_or s (at + 1) 0 → c ≡ get_or s (at + 2) 0 → d ≡ get_or s (at + 3) 0
-    → e ≡ get_or s (at + 4) 0 → f ≡ get_or s (at + 5) 0 → g ≡ get_or s (at + 6) 0 → h ≡ get_or s (at + 7) 0
-    → a + 256 * (b + 256 * (c + 256 * (d + 256 * (e + 256 * (f + 256 * (g + 256 * h)))))) ≡ little_at 8 s at
-unfolding little_at
-low_is s at a b c d e f g h ea eb ec ed ee ef eg eh =
-    let p2 : at + 1 + 1 ≡ at + 2 = omega arith in
-    let p3 : at + 2 + 1 ≡ at + 3 = omega arith in
-    let p4 : at + 3 + 1 ≡ at + 4 = omega arith in
-    let p5 : at + 4 + 1 ≡ at + 5 = omega arith in
-    let p6 : at + 5 + 1 ≡ at + 6 = omega arith in
-    let p7 : at + 6 + 1 ≡ at + 7 = omega arith in
-    rw (p2, p3, p4, p5, p6, p7) (omega arith)
+-- ---- eight bytes, the last one first
+pow_more : (d k : ℕ) → 256 ^ d ≤ 256 ^ (k + d)
+pow_more d zero = let e : 0 + d ≡ d = omega arith in rw e (omega arith)
+pow_more d (suc k) = let h = pow_more d k in let e : suc k + d ≡ suc (k + d) = omega arith in rw (e, pow.suc) (omega arith)
+
+module _ (s : List ℕ) (at : ℕ) where
+  pub low_start : 0 ≡ little_at (at + 8 - (at + 8)) s (at + 8)
+  unfolding little_at
+  low_start = let z : at + 8 - (at + 8) ≡ 0 = omega arith in rw z
+
+  module _ (i n : ℕ) (e : n ≡ little_at (at + 8 - i) s i) where
+    pub low_turn : at < i → i ≤ at + 8 → (b : ℕ) → b ≡ get_or s (i - 1) 0 → 256 * n + b ≡ little_at (at + 8 - (i - 1)) s (i - 1)
+    unfolding little_at
+    low_turn h g b f =
+        let z : at + 8 - (i - 1) ≡ suc (at + 8 - i) = omega arith in
+        let y : i - 1 + 1 ≡ i = omega arith in
+        rw (z, y) (omega arith)
+
+    -- with one byte more it is a u64
+    pub low_small : Bytes s → at < i → n < 72057594037927936
+    low_small h g =
+        let d : 7 - (at + 8 - i) + (at + 8 - i) ≡ 7 = omega arith in
+        let p = rw d at (pow_more (at + 8 - i) (7 - (at + 8 - i))) in
+        let l = little_small (at + 8 - i) s i h in
+        omega arith
+
+    pub low_end : i ≡ at → n ≡ little_at 8 s at
+    low_end f = let z : at + 8 - i ≡ 8 = omega arith in e ∙ rw (z, f)
 
 pub all_fifteen : (s : List ℕ) (a0 a1 a2 a3 a4 a5 a6 a7 a8 a9 a10 a11 a12 a13 a14 : ℕ)
     → a0 ≡ number_at s 0 → a1 ≡ number_at s 8 → a2 ≡ number_at s 16 → a3 ≡ number_at s 24 → a4 ≡ number_at s 32 → a5 ≡ number_at s 40 → a6 ≡ number_at s 48 → a7 ≡ number_at s 56

@@ -9,6 +9,7 @@ use lib.Dec.{leb, eqb}
 use native.Mathlib.Omega.{arith}
 use borrow.Author.Tests.{leb-true, le-leb, eqb-true, ne_eqb}
 use Rattle.layouts.specs.Primitive.{pick, number_bytes, ok, refused, onward, no_such_entry}
+use Rattle.layouts.specs.declared.Refusal.{Refusal}
 use Rattle.layouts.specs.Shape.{What}
 use Rattle.layouts.specs.Writers.{slots_of, strings_bytes, framed_bytes, writing}
 use Rattle.layouts.specs.CallWriter.{value_for, strings_in, entries_for, field_bytes}
@@ -17,13 +18,15 @@ use Rattle.table.specs.Packed.{size}
 use Rattle.table.specs.Table.{target_of, what_of}
 use Rattle.walk_items.specs.declared.Item as I
 use Rattle.walk_items.specs.Items.{version_of, next_item}
-use Rattle.writers_output.specs.Answer.{after_writing}
+use Rattle.writers_output.specs.Answer.{meaning, after_writing}
 use Rattle.writers_output.specs.Placed.{placed}
 use Rattle.writers_output.proofs.Laws.{part_tail, put_back, length_placed, then, Filling, filling_start, filling_room, filling_turn, filling_end}
 use Rattle.writers_sets.specs.Sets.{parts_from, strings_put}
 use Rattle.writers_sets.proofs.Sets.{strings_put_lem}
 use Rattle.writers_fields.specs.Fields.{fields_at, what_in, has_number, target_by, strings_by, strings_after}
 use Rattle.writers_fields.proofs.Laws.{Next, next, Kinded, text, set, pairs, frames, maybe, typed, position, absent, number, kinded, entries_by}
+use Rattle.std.specs.Prelude.{Result, Ok, Err}
+use Rattle.std.specs.Result.{result_unwrap_or}
 use Rattle.writers_calls.specs.Calls.{number_by, frames_by, item_bytes, fields_from, Planned, used_or}
 
 -- ---- an item
@@ -167,6 +170,19 @@ framed_put o p ys at h e =
     let d = length-drop at o in
     let t = le-leb (length (framed_bytes p)) (length (drop at o)) (omega arith) in
     put_back o (framed_bytes p) ys at h (e ∙ simp (part_tail, t))
+
+-- and is not refused there
+told : (n : ℕ) (w : Result ℕ Refusal) → meaning w ≡ ok n → result_unwrap_or w 0 ≡ n
+told n (Ok m) e = cc
+told n (Err r) e = let z : ◌≡◌ {A = ℕ} 0 1 = cc in absurd (omega arith)
+
+pub framed_told : (o p : List ℕ) (at : ℕ) → at + length (framed_bytes p) ≤ length o → (w : Result ℕ Refusal)
+    → meaning w ≡ writing (framed_bytes p) (take (length o - at) (drop at o)) → result_unwrap_or w 0 ≡ length (framed_bytes p)
+unfolding writing
+framed_told o p at h w e =
+    let d = length-drop at o in
+    let t = le-leb (length (framed_bytes p)) (length (drop at o)) (omega arith) in
+    told (length (framed_bytes p)) w (e ∙ simp (part_tail, t))
 
 module _ (at : ℕ) (o : List ℕ) (xs : List ℕ) (cs : List (List ℕ)) (zs : List ℕ) (h : at + length (xs ++ (strings_bytes cs ++ zs)) ≤ length o) where
   sizes : length (xs ++ (strings_bytes cs ++ zs)) ≡ length xs + (length (strings_bytes cs) + length zs)

@@ -1,6 +1,6 @@
 -- A call by the row of its operation: 9, 13, or its fields.
 use Prim.Native.Nat.{ℕ, zero, suc, ◌+◌, ◌<◌}
-use mathlib.Core.Path.{◌≡◌, refl, sym, ◌∙◌, ap, subst}
+use mathlib.Core.Path.{◌≡◌, refl, sym, ◌∙◌, ap}
 use mathlib.Core.List.{List, [], ◌∷◌, ◌++◌}
 use mathlib.Core.Bool.{Bool, true, false}
 use lib.ListN.{length, get_or, drop, drop_of_length-le}
@@ -20,16 +20,14 @@ use Rattle.table.specs.Packed.{size, packed_table}
 use Rattle.table.specs.Table.{group_at, items_at, items, unless_end, group_of, cons_group, groups_at, row_for, kind_numbered, version_in}
 use Rattle.table.proofs.Rows.{first_fields}
 use Rattle.table.proofs.Tables.{groups_step}
-use Rattle.table_operations.specs.declared.Shape.{Shape}
-use Rattle.table_operations.specs.declared.Shape.TheVariants.{Unknown, At}
 use Rattle.table_operations.specs.Rows.{arguments_of}
 use Rattle.table_operations.proofs.Shapes.{shape_refuses, call_says}
 use Rattle.walk_items.specs.declared.Item as I
 use Rattle.walk_items.specs.Items.{spoken_of, first_of, version_of, begin_item}
-use Rattle.entries.specs.Entries.{entries_in, numbers_in}
-use Rattle.entries.proofs.Numbers.{with_words, with_bytes}
 use Rattle.writers_fields.specs.Fields.{fields_at}
 use Rattle.writers_calls.specs.Calls.{bytes_or, after_bytes, call_written}
+use Rattle.table_operations.specs.declared.Shape.{Shape}
+use Rattle.std.specs.Prelude.{Option, Some, None}
 
 pub number_low : (s : List ℕ) (at x : ℕ) → x ≡ little_at 8 s at → x ≡ number_at s at
 unfolding number_at
@@ -67,7 +65,7 @@ begins v i x e =
     ∙ ap (λ (j : ℕ). fields_there v (items_at j)) (sym (ap (λ (y : I.Item). y.pc) e ∙ pc_by (eqb (group_at i).kind 1) _ _))
 
 -- ---- by the row
-module _ (c : Context) (ns b es p lent : List ℕ) (y : Shape) (e : y ≡ arguments_of (row_for c.mode c.op)) where
+module _ (c : Context) (ns b es p lent : List ℕ) (y : Option Shape) (e : y ≡ arguments_of (row_for c.mode c.op)) where
   abbrev v : Version
   v = c.spoken
 
@@ -81,10 +79,10 @@ module _ (c : Context) (ns b es p lent : List ℕ) (y : Shape) (e : y ≡ argume
   stays : (n : ℕ) → call_bytes c ns b es p ≡ refused n 0 0 → (r : Refusal) → r ≡ plain n 0 → Answer (refused_by r) lent
   stays n q r f = rw (q, f) (refl, refl)
 
-  pub call_unknown : y ≡ Unknown → (r : Refusal) → r ≡ plain unknown_operation 0 → Answer (refused_by r) lent
+  pub call_unknown : y ≡ None → (r : Refusal) → r ≡ plain unknown_operation 0 → Answer (refused_by r) lent
   call_unknown q r f = stays unknown_operation (by_fields _ (shape_refuses c y _ _ e q).call) r f
 
-  module _ (i k : ℕ) (q : y ≡ At i k) (l : ℕ) (w : (version_of l ≡ v) × (first_of l ≡ i)) (s : ℕ) (es# : s ≡ spoken_of l) (n : ℕ) (en : n ≡ kind_numbered (version_in s) false k) where
+  module _ (i k : ℕ) (q : y ≡ Some (record { first = i; kind = k })) (l : ℕ) (w : (version_of l ≡ v) × (first_of l ≡ i)) (s : ℕ) (es# : s ≡ spoken_of l) (n : ℕ) (en : n ≡ kind_numbered (version_in s) false k) where
     kind_is : n ≡ kind_numbered v false k
     kind_is = en ∙ ap (λ (z : ℕ). kind_numbered (version_in z) false k) es# ∙ ap (λ (z : Version). kind_numbered z false k) w.0
 
@@ -103,22 +101,12 @@ module _ (c : Context) (ns b es p lent : List ℕ) (y : Shape) (e : y ≡ argume
         call_says c y i k e q ∙ ap (λ (t : Bool). pick t (refused no_arguments 0 0) (ok (first_fields v (groups_at i)))) (ne_eqb (kind_numbered v false k) 0 h) ∙ ap ok g in
         rw (by_fields (ok (fields_at l x.pc)) d) a
 
--- ---- with entries in one form, and the numbers from where they stand
-module _ (c : Context) (ns ns' b p lent lent' : List ℕ) (o : Result ℕ) where
-  abbrev Written# : (es : List ℕ) → Type 0
-  Written# es = (o ≡ (call_written c ns' b es p lent).answer) × (lent' ≡ (call_written c ns' b es p lent).lent)
-
-  by_numbers : (es : List ℕ) → (o ≡ write_bytes (call_bytes c ns b es p) lent) × (lent' ≡ after_bytes (call_bytes c ns b es p) lent) → ns ≡ ns' → Written# es
+-- ---- with the numbers from where they stand
+module _ (c : Context) (ns ns' b es p lent lent' : List ℕ) (o : Result ℕ) where
+  pub by_numbers : (o ≡ write_bytes (call_bytes c ns b es p) lent) × (lent' ≡ after_bytes (call_bytes c ns b es p) lent) → ns ≡ ns'
+      → (o ≡ (call_written c ns' b es p lent).answer) × (lent' ≡ (call_written c ns' b es p lent).lent)
   unfolding call_written write_op_args
-  by_numbers es a e = rw (← e) a
-
-  pub by_words : (es : List ℕ) → (o ≡ write_bytes (call_bytes c ns b (numbers_in es []) p) lent) × (lent' ≡ after_bytes (call_bytes c ns b (numbers_in es []) p) lent)
-      → ns ≡ ns' → Written# es
-  by_words es a e = subst Written# (with_words es) (by_numbers (numbers_in es []) a e)
-
-  pub by_bytes : (es : List ℕ) → (o ≡ write_bytes (call_bytes c ns b (numbers_in [] es) p) lent) × (lent' ≡ after_bytes (call_bytes c ns b (numbers_in [] es) p) lent)
-      → ns ≡ ns' → Written# (entries_in es)
-  by_bytes es a e = subst Written# (with_bytes es) (by_numbers (numbers_in [] es) a e)
+  by_numbers a e = rw (← e) a
 
 -- n elements from number k on
 abbrev reads : (n k : ℕ) → List ℕ → List ℕ

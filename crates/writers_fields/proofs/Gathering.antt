@@ -17,15 +17,15 @@ use Rattle.table.specs.Packed.{size}
 use Rattle.table.specs.Table.{target_of}
 use Rattle.walk_items.specs.declared.Item as I
 use Rattle.walk_items.specs.Items.{version_of, next_item}
-use Rattle.writers_output.specs.declared.Written.{Written}
-use Rattle.writers_output.specs.declared.Written.TheVariants as W
 use Rattle.writers_output.specs.Answer.{meaning}
 use Rattle.writers_sets.specs.Sets.{grown}
 use Rattle.writers_fields.specs.declared.Needs.{Needs}
 use Rattle.writers_fields.specs.Fields.{fields_at, target_by, strings_by, strings_after, bytes_by, bytes_after}
 use Rattle.writers_fields.proofs.Laws.{Next, next, kinded, left_by_lem, frames_by_lem, bytes_by_lem, entries_by}
+use Rattle.std.specs.Prelude as Std
+use Rattle.std.specs.Prelude.{Ok, Err}
 
-pub record Gathering (ns : List ℕ) (slots framed room : ℕ) (left₀ : List ℕ) (ws₀ : List What) (e : Written) (b : ℕ) (f : Bool) (l : List ℕ) (ws : List What) : Type 0 where
+pub record Gathering (ns : List ℕ) (slots framed room : ℕ) (left₀ : List ℕ) (ws₀ : List What) (e : Std.Result ℕ Refusal) (b : ℕ) (f : Bool) (l : List ℕ) (ws : List What) : Type 0 where
   pub entries : onward (meaning e) (λ n. entries_for ns slots n ws) ≡ entries_for ns slots 0 ws₀
   pub within : (n : ℕ) → meaning e ≡ ok n → n ≤ slots
   pub bytes : bytes_after room framed b ws ≡ bytes_after room framed 0 ws₀
@@ -33,7 +33,7 @@ pub record Gathering (ns : List ℕ) (slots framed room : ℕ) (left₀ : List �
   pub left : left_by ns l ws ≡ left_by ns left₀ ws₀
 
 module _ (ns : List ℕ) (slots framed room : ℕ) (left₀ : List ℕ) (ws₀ : List What) where
-  pub gather_start : Gathering ns slots framed room left₀ ws₀ (W.Length 0) 0 false left₀ ws₀
+  pub gather_start : Gathering ns slots framed room left₀ ws₀ (Ok 0) 0 false left₀ ws₀
   gather_start = record { entries = refl; within = λ n q. let z : ◌≡◌ {A = ℕ} 0 n = cc in omega arith; bytes = refl; frames = refl; left = refl }
 
   taken_within : (k n used m : ℕ) → used ≤ slots → strings_after k n slots used ≡ ok m → m ≤ slots
@@ -47,7 +47,7 @@ module _ (ns : List ℕ) (slots framed room : ℕ) (left₀ : List ℕ) (ws₀ :
   or_same true b c = refl
   or_same false b c = refl
 
-  module _ (l pc : ℕ) (e : Written) (bytes : ℕ) (frames : Bool) (left : List ℕ) (g : Gathering ns slots framed room left₀ ws₀ e bytes frames left (fields_at l pc))
+  module _ (l pc : ℕ) (e : Std.Result ℕ Refusal) (bytes : ℕ) (frames : Bool) (left : List ℕ) (g : Gathering ns slots framed room left₀ ws₀ e bytes frames left (fields_at l pc))
       (x : I.Item) (q : x ≡ next_item (version_of l) pc 0 size size) where
     it : Next (version_of l) pc x
     it = next (version_of l) pc x q
@@ -74,7 +74,7 @@ module _ (ns : List ℕ) (slots framed room : ℕ) (left₀ : List ℕ) (ws₀ :
       gather_less = it.falls k
 
       pub gather_turn : (t : ℕ) → t ≡ target_by x.kind x.target → (left' : List ℕ) → left' ≡ leave ns left (target_of t)
-          → (n : ℕ) → n ≡ value_for ns (target_of (target_by x.kind x.target)) → (e' : Written) → meaning e' ≡ onward (meaning e) (λ used. strings_after x.kind n slots used)
+          → (n : ℕ) → n ≡ value_for ns (target_of (target_by x.kind x.target)) → (e' : Std.Result ℕ Refusal) → meaning e' ≡ onward (meaning e) (λ used. strings_after x.kind n slots used)
           → (b : ℕ) → b ≡ bytes_by framed x.kind → (bytes' : ℕ) → bytes' ≡ grown room bytes b
           → Gathering ns slots framed room left₀ ws₀ e' bytes' (frames || eqb x.kind 5) left' (fields_at l x.pc)
       gather_turn t ft left' fl n fn e' fe b fb bytes' fg = record {
@@ -117,5 +117,5 @@ module _ (ns p : List ℕ) (ws : List What) (slots room : ℕ) (f : ℕ) (ef : f
   judge_fine h = let s = shape_is true h in rw s (g.0, (g.1.0 ∙ ap (λ (n : ℕ). bytes_after room n 0 ws) ef, g.1.1))
 
   pub judge_other : (z && (r.framed || eqb (length p) 0)) ≡ false → (x : Refusal) → x ≡ plain not_of_shape 0
-      → Judges (record { entries = W.Refused x; bytes = 0; framed = false })
+      → Judges (record { entries = Err x; bytes = 0; framed = false })
   judge_other h x e = let s = shape_is false h in rw s (ap refused_by e, (refl, refl))

@@ -84,65 +84,47 @@ fn take(left: &mut [u64; 15], numbers: &[u64; 15], target: u8)
     }
 }
 
+// Without a branch for each number, as `all` would have.
 fn all_zero(left: &[u64; 15]) -> bool
     ensures { result ≡ all_zero 15 left.now }
 {
-    (left[0] == 0)
-        & (left[1] == 0)
-        & (left[2] == 0)
-        & (left[3] == 0)
-        & (left[4] == 0)
-        & (left[5] == 0)
-        & (left[6] == 0)
-        & (left[7] == 0)
-        & (left[8] == 0)
-        & (left[9] == 0)
-        & (left[10] == 0)
-        & (left[11] == 0)
-        & (left[12] == 0)
-        & (left[13] == 0)
-        & (left[14] == 0)
-}
-
-fn left_after(slots: usize, used: usize) -> usize
-    ensures { result ≡ slots - used }
-{
-    if slots < used {
-        return 0;
+    let mut zero = true;
+    for n in left {
+        zero &= *n == 0;
     }
-    slots - used
+    zero
 }
 
 fn none_left(n: u64) -> Written
     ensures { meaning result ≡ refused no_such_entry n 0 }
 {
-    Written::Refused(layouts::refuse(layouts::NO_SUCH_ENTRY, n as usize))
+    Err(layouts::refuse(layouts::NO_SUCH_ENTRY, n as usize))
 }
 
 // How many entries are used after an item. A count is not doubled before it is known to be that small.
 pub fn strings_after(kind: u8, n: u64, slots: usize, used: usize) -> Written
     ensures { meaning result ≡ strings_after kind n slots used }
 {
-    let left = left_after(slots, used) as u64;
+    let left = slots.saturating_sub(used) as u64;
     if kind == table::STR {
         if left < 1 {
             return none_left(n);
         }
-        return Written::Length(used + 1);
+        return Ok(used + 1);
     }
     if kind == table::SET {
         if left < n {
             return none_left(n);
         }
-        return Written::Length(used + n as usize);
+        return Ok(used + n as usize);
     }
     if kind == table::PAIRS {
         if left / 2 < n {
             return none_left(n);
         }
-        return Written::Length(used + 2 * n as usize);
+        return Ok(used + 2 * n as usize);
     }
-    Written::Length(used)
+    Ok(used)
 }
 
 // A refusal stays. A number, which most fields are, has no strings and is told first, here and below.
@@ -152,10 +134,8 @@ fn strings_on(strings: Written, kind: u8, n: u64, slots: usize) -> Written
     if kind == table::NUM {
         return strings;
     }
-    match strings {
-        Written::Length(used) => strings_after(kind, n, slots, used),
-        Written::Refused(_) => strings,
-    }
+    let used = strings?;
+    strings_after(kind, n, slots, used)
 }
 
 fn bytes_by(framed: usize, kind: u8) -> usize
@@ -174,7 +154,7 @@ fn bytes_by(framed: usize, kind: u8) -> usize
 }
 
 // What fields need: how many entries, or why they run out; how many bytes besides their strings, or more than any room; whether one of them is framed data.
-#[derive(Drop)]
+#[derive(Clone, Copy)]
 pub struct Needs {
     pub entries: Written,
     pub bytes: usize,
@@ -197,7 +177,7 @@ fn gather(
     ensures left { left.new ≡ left_by numbers.now left.old (fields_at layout pc) }
 {
     let mut pc = pc;
-    let mut entries = Written::Length(0);
+    let mut entries = Ok(0);
     let mut bytes = 0;
     let mut has_frames = false;
     loop {
@@ -239,7 +219,7 @@ pub fn judge(
         return needs;
     }
     Needs {
-        entries: Written::Refused(layouts::refuse(layouts::NOT_OF_SHAPE, 0)),
+        entries: Err(layouts::refuse(layouts::NOT_OF_SHAPE, 0)),
         bytes: 0,
         framed: false,
     }

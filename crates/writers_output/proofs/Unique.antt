@@ -9,8 +9,6 @@ use denote.Triple.Clauses.{AtExit}
 use Rattle.layouts.specs.Primitive.{Result, ok, refused}
 use Rattle.layouts.specs.Refusal.{refusal}
 use Rattle.writers_output.specs.Answer.{meaning}
-use Rattle.writers_output.specs.declared.Written.{Written}
-use Rattle.writers_output.specs.declared.Written.TheVariants.{Length, Refused}
 use Rattle.writers_output.proofs.put.Reads as put
 use Rattle.writers_output.proofs.put.Kinds as put-kinds
 use Rattle.writers_output.proofs.put_number.Reads as put-number
@@ -23,19 +21,22 @@ use Rattle.writers_output.proofs.string_length.Reads as string-length
 use Rattle.writers_output.proofs.string_length.Kinds as string-length-kinds
 use Rattle.writers_output.proofs.has_room.Reads as has_room
 use Rattle.writers_output.proofs.has_room.Kinds as has-room-kinds
+use Rattle.std.specs.Prelude as Std
+use Rattle.layouts.specs.declared.Refusal.{Refusal}
+use Rattle.std.specs.Prelude.{Ok, Err}
 
-abbrev answer_of : Result ℕ → Written
-answer_of (ok n) = Length n
-answer_of (refused which place stream) = Refused (refusal which place stream)
+abbrev answer_of : Result ℕ → Std.Result ℕ Refusal
+answer_of (ok n) = Ok n
+answer_of (refused which place stream) = Err (refusal which place stream)
 
-answer_of_lem : (v : Written) → answer_of (meaning v) ≡ v
-answer_of_lem (Length n) = refl
-answer_of_lem (Refused r) = refl
+answer_of_lem : (v : Std.Result ℕ Refusal) → answer_of (meaning v) ≡ v
+answer_of_lem (Ok n) = refl
+answer_of_lem (Err r) = refl
 
-pub meaning_once : (v w : Written) → meaning v ≡ meaning w → v ≡ w
+pub meaning_once : (v w : Std.Result ℕ Refusal) → meaning v ≡ meaning w → v ≡ w
 meaning_once v w e = sym (answer_of_lem v) ∙ ap answer_of e ∙ answer_of_lem w
 
-pub once : (v w : Written) (r : Result ℕ) (o o' l : List ℕ) → (meaning v ≡ r) × (o ≡ l) → (meaning w ≡ r) × (o' ≡ l) → (v ≡ w) × (o ≡ o')
+pub once : (v w : Std.Result ℕ Refusal) (r : Result ℕ) (o o' l : List ℕ) → (meaning v ≡ r) × (o ≡ l) → (meaning w ≡ r) × (o' ≡ l) → (v ≡ w) × (o ≡ o')
 once v w r o o' l p q = (meaning_once v w (p.0 ∙ sym q.0), p.1 ∙ sym q.1)
 
 -- ---- the parts, as Rattle reads their contracts off the source (`Post`)

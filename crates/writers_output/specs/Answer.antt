@@ -4,12 +4,13 @@ use Rattle.layouts.specs.Primitive.{Result, ok}
 use Rattle.layouts.specs.Refusal.{refused_by}
 use Rattle.layouts.specs.Judge.{lent_after}
 use Rattle.layouts.specs.Writers.{writing}
-use Rattle.writers_output.specs.declared.Written.{Written}
-use Rattle.writers_output.specs.declared.Written.TheVariants.{Length, Refused}
+use Rattle.std.specs.Prelude as Std
+use Rattle.layouts.specs.declared.Refusal.{Refusal}
+use Rattle.std.specs.Prelude.{Ok, Err}
 
-abbrev pub meaning : Written → Result ℕ
-meaning (Length n) = ok n
-meaning (Refused r) = refused_by r
+abbrev pub meaning : Std.Result ℕ Refusal → Result ℕ
+meaning (Ok n) = ok n
+meaning (Err r) = refused_by r
 
 -- the lent bytes after this output was to be written
 abbrev pub after_writing : (output lent : List ℕ) → List ℕ

@@ -8,11 +8,7 @@ ghost use Rattle.writers_output.specs.Placed.{placed};
 use layouts::Refusal;
 
 // The length of what was written at the start of the lent bytes, or a refusal, which leaves them as they were.
-#[derive(Drop)]
-pub enum Written {
-    Length(usize),
-    Refused(Refusal),
-}
+pub type Written = Result<usize, Refusal>;
 
 // Do n bytes fit at a place?
 pub fn has_room(size: usize, at: usize, n: usize) -> bool

@@ -1,6 +1,6 @@
 -- Sets: what an entry takes, how a set is judged, and how it is written.
 use Prim.Native.Nat.{ℕ, zero, suc, ◌+◌, ◌-◌, ◌≤◌, ◌<◌}
-use mathlib.Core.Path.{◌≡◌, refl, sym, ap, subst, ◌∙◌}
+use mathlib.Core.Path.{◌≡◌, refl, sym, ap, ◌∙◌}
 use mathlib.Core.List.{List, [], ◌∷◌, ◌++◌}
 use mathlib.Core.Bool.{Bool, true, false, not}
 use lib.Dec.{leb}
@@ -17,18 +17,15 @@ use Rattle.layouts.specs.declared.Refusal.{Refusal}
 use Rattle.layouts.specs.Refusal.{plain, refused_by}
 use Rattle.layouts.specs.Judge.{lent_after}
 use Rattle.layouts.specs.Writers.{slots_of, view_of, part_of, string_bytes, strings_bytes, set_bytes, writing, text_at, texts_from, texts_of, write_string_set, output_of}
-use Rattle.entries.specs.declared.Located.{Located}
-use Rattle.entries.specs.declared.Located.TheVariants.{Part, Refused}
-use Rattle.entries.specs.Entries.{entries_in, numbers_in, place_of, found}
-use Rattle.entries.proofs.Numbers.{with_words, with_bytes}
+use Rattle.entries.specs.Entries.{place_of, found}
 use Rattle.entries.proofs.Places.{inside, refused_view}
 use Rattle.layouts.proofs.Little.{length_number}
 use Rattle.writers_sets.specs.Sets.{fitting, text_taken, entry_taken, grown, strings_judged, set_judged, parts_from, strings_put}
-use Rattle.writers_output.specs.declared.Written.{Written}
-use Rattle.writers_output.specs.declared.Written.TheVariants as W
-use Rattle.writers_output.specs.Answer.{meaning}
 use Rattle.writers_output.specs.Placed.{placed}
 use Rattle.writers_output.proofs.Laws.{placed_fits, length_placed, done, then}
+use Rattle.entries.specs.declared.Located.{Located}
+use Rattle.std.specs.Prelude as Std
+use Rattle.std.specs.Prelude.{Ok, Err}
 
 -- a string, by its text
 module _ (i : ℕ) (c : List ℕ) (x : Bool) (j : Judged x c) where
@@ -49,11 +46,11 @@ module _ (bytes es : List ℕ) (i : ℕ) where
   by_view (ok c) e = rw e (by_text c (is_text c))
   by_view (refused w p s) e = rw e
 
-  module _ (f : Located) (e : found f ≡ place_of bytes es i) where
-    pub entry_refused : (r : Refusal) → f ≡ Refused r → refused_by r ≡ entry_taken bytes es i
+  module _ (f : Std.Result Located Refusal) (e : found f ≡ place_of bytes es i) where
+    pub entry_refused : (r : Refusal) → f ≡ Err r → refused_by r ≡ entry_taken bytes es i
     entry_refused r q = by_view (refused_by r) (refused_view bytes es i f e r q)
 
-    pub entry_taken_lem : (start len : ℕ) → f ≡ Part start len → (o : Result ℕ) → o ≡ text_taken i (take (start + len - start) (drop start bytes)) → o ≡ entry_taken bytes es i
+    pub entry_taken_lem : (start len : ℕ) → f ≡ Ok (record { start = start; len = len }) → (o : Result ℕ) → o ≡ text_taken i (take (start + len - start) (drop start bytes)) → o ≡ entry_taken bytes es i
     entry_taken_lem start len q o t = t ∙ rw add-sub_cancel_left (by_view (ok (take len (drop start bytes))) (inside bytes es i f e start len q).view)
 
 -- ---- judging: what is left of the loop
@@ -99,23 +96,20 @@ module _ (bytes es : List ℕ) (count room : ℕ) where
     judging_start h = record { same = rw sub-zero (set_texts bytes es room h count 0 before); within = omega arith }
 
     module _ (total i : ℕ) (j : Judging bytes es count room before total i) where
-      pub judging_turn : i < count → (w : Written) → meaning w ≡ entry_taken bytes es i → (n t : ℕ) → w ≡ W.Length n → t ≡ grown room total n → Judging bytes es count room before t (i + 1)
+      pub judging_turn : i < count → (n t : ℕ) → ok n ≡ entry_taken bytes es i → t ≡ grown room total n → Judging bytes es count room before t (i + 1)
       unfolding set_from
-      judging_turn h w e n t f g =
+      judging_turn h n t e g =
           let s : count - i ≡ suc (count - (i + 1)) = omega arith in
-          let u : entry_taken bytes es i ≡ ok n = sym e ∙ ap meaning f in
-          let o = simp (s, u) at j.same in
+          let o = simp (s, sym e) at j.same in
           record { same = rw g o; within = omega arith }
 
-      pub judging_refused : i < count → (w : Written) → meaning w ≡ entry_taken bytes es i → (x : Refusal) → w ≡ W.Refused x
-          → meaning w ≡ strings_judged room before (texts_from bytes es count 0)
+      pub judging_refused : i < count → (x : Refusal) → refused_by x ≡ entry_taken bytes es i → refused_by x ≡ strings_judged room before (texts_from bytes es count 0)
       unfolding set_from
-      judging_refused h w e x f =
+      judging_refused h x e =
           let s : count - i ≡ suc (count - (i + 1)) = omega arith in
-          let u : entry_taken bytes es i ≡ refused_by x = sym e ∙ ap meaning f in
-          ap meaning f ∙ (simp (s, u) at j.same)
+          simp (s, sym e) at j.same
 
-      pub judging_end : count ≤ i → (w : Written) → meaning w ≡ fitting total room → meaning w ≡ strings_judged room before (texts_from bytes es count 0)
+      pub judging_end : count ≤ i → (w : Result ℕ) → w ≡ fitting total room → w ≡ strings_judged room before (texts_from bytes es count 0)
       unfolding set_from
       judging_end h w e =
           let o = j.within in
@@ -277,39 +271,30 @@ set_put bytes es count o o₁ o₂ h e f =
     ∙ ap (λ (k : ℕ). placed 0 (number_bytes k ++ strings_bytes (parts_from bytes es count 0)) o) (sym n)
 
 -- ---- the answer, by what was judged
-module _ (bytes es : List ℕ) (count : ℕ) (lent : List ℕ) (w : Written) (e : meaning w ≡ set_judged (length lent) (texts_of bytes es count)) where
-  answered : meaning w ≡ write_string_set bytes es count lent
+module _ (bytes es : List ℕ) (count : ℕ) (lent : List ℕ) where
+  answered : (r : Result ℕ) → r ≡ set_judged (length lent) (texts_of bytes es count) → r ≡ write_string_set bytes es count lent
   unfolding write_string_set writing
-  answered = e
+  answered r e = e
 
-  pub set_refused : (x : Refusal) → w ≡ W.Refused x
-      → (meaning w ≡ write_string_set bytes es count lent) × (lent ≡ lent_after (write_string_set bytes es count lent) (output_of (texts_of bytes es count)) lent)
-  set_refused x f = (answered, ap (λ (x : Result ℕ). lent_after x (output_of (texts_of bytes es count)) lent) (sym (ap meaning f) ∙ answered))
+  pub set_refused : (x : Refusal) → refused_by x ≡ set_judged (length lent) (texts_of bytes es count)
+      → (refused_by x ≡ write_string_set bytes es count lent) × (lent ≡ lent_after (write_string_set bytes es count lent) (output_of (texts_of bytes es count)) lent)
+  set_refused x e =
+      let a = answered (refused_by x) e in
+      (a, ap (λ (r : Result ℕ). lent_after r (output_of (texts_of bytes es count)) lent) a)
 
-  module _ (n : ℕ) (f : w ≡ W.Length n) where
+  module _ (n : ℕ) (e : ok n ≡ set_judged (length lent) (texts_of bytes es count)) where
     fits : SetFits bytes es count (length lent) n
-    fits = set_fits bytes es count (length lent) n (meaning w) e (ap meaning f)
+    fits = set_fits bytes es count (length lent) n (ok n) e refl
 
     pub set_held : length (set_bytes (parts_from bytes es count 0)) ≤ length lent
     set_held = omega (arith, fits.size, fits.fits)
 
     pub set_done : (lent' : List ℕ) → lent' ≡ placed 0 (set_bytes (parts_from bytes es count 0)) lent
-        → (meaning w ≡ write_string_set bytes es count lent) × (lent' ≡ lent_after (write_string_set bytes es count lent) (output_of (texts_of bytes es count)) lent)
+        → (ok n ≡ write_string_set bytes es count lent) × (lent' ≡ lent_after (write_string_set bytes es count lent) (output_of (texts_of bytes es count)) lent)
     set_done lent' g =
-        let d = done (set_bytes (parts_from bytes es count 0)) lent lent' n fits.size fits.fits g in (
-          answered,
-          d.1 ∙ ap (λ (x : Result ℕ). lent_after x (set_bytes (parts_from bytes es count 0)) lent) (sym d.0 ∙ sym (ap meaning f) ∙ answered)
+        let d = done (set_bytes (parts_from bytes es count 0)) lent lent' n fits.size fits.fits g in
+        let a = answered (ok n) e in (
+          a,
+          d.1 ∙ ap (λ (x : Result ℕ). lent_after x (set_bytes (parts_from bytes es count 0)) lent) (sym d.0 ∙ a)
               ∙ ap (λ (x : Result (List (List ℕ))). lent_after (write_string_set bytes es count lent) (output_of x) lent) (sym fits.texts),
         )
-
--- with entries in one form
-abbrev Answer : (bytes es : List ℕ) (count : ℕ) (lent lent' : List ℕ) → Result ℕ → Type 0
-Answer bytes es count lent lent' r =
-    (r ≡ write_string_set bytes es count lent) × (lent' ≡ lent_after (write_string_set bytes es count lent) (output_of (texts_of bytes es count)) lent)
-
-module _ (bytes entries : List ℕ) (count : ℕ) (lent lent' : List ℕ) (r : Result ℕ) where
-  pub by_words : Answer bytes (numbers_in entries []) count lent lent' r → Answer bytes entries count lent lent' r
-  by_words a = subst (λ (es : List ℕ). Answer bytes es count lent lent' r) (with_words entries) a
-
-  pub by_bytes : Answer bytes (numbers_in [] entries) count lent lent' r → Answer bytes (entries_in entries) count lent lent' r
-  by_bytes a = subst (λ (es : List ℕ). Answer bytes es count lent lent' r) (with_bytes entries) a

@@ -4,7 +4,10 @@ use mathlib.Core.Path.{◌≡◌, sym, ◌∙◌}
 use contract.Lifetimes.{Lfts}
 use borrow.Fn.Kinds.{Dens, ended_of}
 use denote.Triple.Clauses.{AtExit}
-use Rattle.writers_output.specs.declared.Written.{Written}
+use denote.RattleType.{RattleType}
+use denote.Param.Laws.{Laws}
+use mir.Syntax.{Dict}
+use Rattle.entries.specs.declared.Form
 use Rattle.writers_output.proofs.Unique.{meaning_once, once}
 use Rattle.writers_sets.proofs.write_string_set.Reads as write-string-set
 use Rattle.writers_sets.proofs.write_string_set.Kinds as write-string-set-kinds
@@ -16,12 +19,14 @@ use Rattle.writers_sets.proofs.judge_strings.Reads as judge_strings
 use Rattle.writers_sets.proofs.judge_strings.Kinds as judge-strings-kinds
 use Rattle.writers_sets.proofs.put_strings.Reads as put-strings
 use Rattle.writers_sets.proofs.put_strings.Kinds as put-strings-kinds
+use Rattle.layouts.specs.declared.Refusal.{Refusal}
+use Rattle.std.specs.Prelude.{Result}
 
-pub write_string_set_once : (κs : Lfts 3) (a : Dens κs write-string-set-kinds.ps) (v w : Written) (x y : AtExit (ended_of 3 write-string-set-kinds.ps write-string-set-kinds.r) κs)
+pub write_string_set_once : (κs : Lfts 3) (a : Dens κs write-string-set-kinds.ps) (v w : Result ℕ Refusal) (x y : AtExit (ended_of 3 write-string-set-kinds.ps write-string-set-kinds.r) κs)
     → write-string-set.Post κs a v x → write-string-set.Post κs a w y → (v ≡ w) × (x.0.now ≡ y.0.now)
 write_string_set_once κs a v w x y p q = once v w _ _ _ _ p q
 
-pub write_string_set_bytes_once : (κs : Lfts 3) (a : Dens κs write-string-set-bytes-kinds.ps) (v w : Written) (x y : AtExit (ended_of 3 write-string-set-bytes-kinds.ps write-string-set-bytes-kinds.r) κs)
+pub write_string_set_bytes_once : (κs : Lfts 3) (a : Dens κs write-string-set-bytes-kinds.ps) (v w : Result ℕ Refusal) (x y : AtExit (ended_of 3 write-string-set-bytes-kinds.ps write-string-set-bytes-kinds.r) κs)
     → write-string-set-bytes.Post κs a v x → write-string-set-bytes.Post κs a w y → (v ≡ w) × (x.0.now ≡ y.0.now)
 write_string_set_bytes_once κs a v w x y p q = once v w _ _ _ _ p q
 
@@ -30,10 +35,12 @@ pub grow_once : (κs : Lfts 0) (a : Dens κs grow-kinds.ps) (r r' : ℕ) (x y : 
     → grow.Post κs a r x → grow.Post κs a r' y → r ≡ r'
 grow_once κs a r r' x y p q = p ∙ sym q
 
-pub judge_strings_once : (κs : Lfts 4) (a : Dens κs judge-strings-kinds.ps) (v w : Written) (x y : AtExit (ended_of 4 judge-strings-kinds.ps judge-strings-kinds.r) κs)
-    → judge_strings.Post κs a v x → judge_strings.Post κs a w y → v ≡ w
-judge_strings_once κs a v w x y p q = meaning_once v w (p ∙ sym q)
+-- in either form
+module _ (T : RattleType) (L : Laws T) (F : Form.Ghosts T.Denot) (d : Dict) where
+  pub judge_strings_once : (κs : Lfts 4) (a : Dens κs (judge-strings-kinds.ps T L)) (v w : Result ℕ Refusal) (x y : AtExit (ended_of 4 (judge-strings-kinds.ps T L) (judge-strings-kinds.r T L)) κs)
+      → judge_strings.Post T L F d κs a v x → judge_strings.Post T L F d κs a w y → v ≡ w
+  judge_strings_once κs a v w x y p q = meaning_once v w (p ∙ sym q)
 
-pub put_strings_once : (κs : Lfts 4) (a : Dens κs put-strings-kinds.ps) (r r' : ℕ) (x y : AtExit (ended_of 4 put-strings-kinds.ps put-strings-kinds.r) κs)
-    → put-strings.Post κs a r x → put-strings.Post κs a r' y → (r ≡ r') × (x.0.now ≡ y.0.now)
-put_strings_once κs a r r' x y p q = (p.0 ∙ sym q.0, p.1 ∙ sym q.1)
+  pub put_strings_once : (κs : Lfts 4) (a : Dens κs (put-strings-kinds.ps T L)) (r r' : ℕ) (x y : AtExit (ended_of 4 (put-strings-kinds.ps T L) (put-strings-kinds.r T L)) κs)
+      → put-strings.Post T L F d κs a r x → put-strings.Post T L F d κs a r' y → (r ≡ r') × (x.0.now ≡ y.0.now)
+  put_strings_once κs a r r' x y p q = (p.0 ∙ sym q.0, p.1 ∙ sym q.1)

@@ -14,8 +14,8 @@ drop_set text i v h =
     let l = length-set text i v in
     drop-cons (set text i v) i 0 (omega arith) ∙ simp (get_or-set_same text i v 0 h, drop-set-lt (suc i) text i v (omega arith))
 
-pub digits_start : (text : List ℕ) (n : ℕ) → length text ≡ 20 → (digits 20 n ++ drop 20 text ≡ digits 20 n) × (20 ≤ 20) × (length text ≡ 20)
-digits_start text n h = (ap (λ (l : List ℕ). digits 20 n ++ l) (drop_of_length-le text {i = 20} (omega arith)) ∙ append-nil (digits 20 n), omega arith, h)
+pub digits_start : (text : List ℕ) (n : ℕ) → length text ≡ 20 → (digits 20 n ++ drop 20 text ≡ digits 20 n) × (length text ≡ 20)
+digits_start text n h = (ap (λ (l : List ℕ). digits 20 n ++ l) (drop_of_length-le text {i = 20} (omega arith)) ∙ append-nil (digits 20 n), h)
 
 module _ (text : List ℕ) (x : ℕ) (d : List ℕ) where
   pub digits_last : (i : ℕ) → 0 < i → i ≤ length text → x < 10 → digits i x ++ drop i text ≡ d → drop (i - 1) (set text (i - 1) (48 + x % 10)) ≡ d
@@ -38,7 +38,7 @@ module _ (text : List ℕ) (x : ℕ) (d : List ℕ) where
       let p : suc i - 1 ≡ i = omega arith in
       rw p (ap (λ (l : List ℕ). digits i (x / 10) ++ l) (drop_set text i (48 + x % 10) (omega arith)) ∙ e')
 
-  pub digits_over : (i : ℕ) → i ≡ 0 → digits i x ++ drop i text ≡ d → drop i text ≡ d
+  pub digits_over : (i : ℕ) → i ≡ 0 → digits i x ++ drop i text ≡ d → text ≡ d
   unfolding digits
   digits_over zero h e = e
   digits_over (suc i) h e = absurd (omega arith)

@@ -13,11 +13,11 @@ fn write_two(out: &mut [u8], a: &[u8], b: &[u8]) -> Written
 {
     let n = a.len() + b.len();
     if out.len() < n {
-        return Written::Refused(layouts::refuse(layouts::OUTPUT_FULL, 0));
+        return Err(layouts::refuse(layouts::OUTPUT_FULL, 0));
     }
     writers_output::put(out, 0, a);
     writers_output::put(out, a.len(), b);
-    Written::Length(n)
+    Ok(n)
 }
 
 // The decimal digits of n, at the end of `text`; where they start. (A proof is not told the length of an array behind a reference.)
@@ -26,16 +26,14 @@ fn digits(text: &mut [u8; 20], n: u64) -> usize
     ensures { (result ≤ 20) × (length text.new ≡ 20) × (drop result text.new ≡ decimal n) }
 {
     let mut x = n;
-    let mut i: usize = 20;
-    while 0 < i {
-        i -= 1;
+    for i in (0..20).rev() {
         text[i] = (48 + x % 10) as u8;
         if x < 10 {
             return i;
         }
-        x = x / 10;
+        x /= 10;
     }
-    i
+    0
 }
 
 // n in decimal, then b.

@@ -2,20 +2,20 @@
 use Rattle.handshake.proofs.Sides.{client_refused, daemon_refused, client_magic_lem, daemon_magic_lem, both_greeted}
 use Rattle.handshake.proofs.judge_handshake.Goals as goal
 
-pub returns-then-asks-ne-WORKER_MAGIC_1 : goal.returns-then-asks-ne-WORKER_MAGIC_1
-returns-then-asks-ne-WORKER_MAGIC_1 c = search client_magic_lem
+pub returns-in-Err : goal.returns-in-Err
+returns-in-Err c = client_refused _ _ _ _ _ _ _ _ _ _ c.in-Err.ensures c.stop.ensures
 
-pub returns-then-tells-ne-WORKER_MAGIC_2 : goal.returns-then-tells-ne-WORKER_MAGIC_2
-returns-then-tells-ne-WORKER_MAGIC_2 c =
-    daemon_magic_lem _ _ _ _ c.judge_hello-a.result c.judge_hello-a.ensures c.stop-then-tells-ne-WORKER_MAGIC_2.result.said _ _ _ _ _ _ c.in-Said.is
-    c.judge_hello-b.result c.judge_hello-b.ensures _ _ c.in-Said-b.is c.if-asks-ne-WORKER_MAGIC_1.false c.if-tells-ne-WORKER_MAGIC_2.true _ c.refuse-then-tells-ne-WORKER_MAGIC_2.ensures
-    c.stop-then-tells-ne-WORKER_MAGIC_2.ensures
+pub returns-in-Err-judge_hello : goal.returns-in-Err-judge_hello
+returns-in-Err-judge_hello c = daemon_refused _ _ _ _ _ _ _ _ _ _ c.in-Ok.ensures _ c.in-Err-judge_hello.ensures c.stop-in-Err-judge_hello.ensures
 
-pub returns-in-Refused : goal.returns-in-Refused
-returns-in-Refused c = search client_refused
+pub returns-then-a-ne-WORKER_MAGIC_1 : goal.returns-then-a-ne-WORKER_MAGIC_1
+returns-then-a-ne-WORKER_MAGIC_1 c =
+    client_magic_lem _ _ _ _ _ _ _ _ _ _ c.in-Ok.ensures _ c.in-Ok-judge_hello.ensures c.if-a-ne-WORKER_MAGIC_1.true _ c.refuse.ensures c.stop-then-a-ne-WORKER_MAGIC_1.ensures
 
-pub returns-in-Refused-b : goal.returns-in-Refused-b
-returns-in-Refused-b c = search daemon_refused
+pub returns-then-b-ne-WORKER_MAGIC_2 : goal.returns-then-b-ne-WORKER_MAGIC_2
+returns-then-b-ne-WORKER_MAGIC_2 c =
+    daemon_magic_lem _ _ _ _ _ _ _ _ _ _ c.in-Ok.ensures _ c.in-Ok-judge_hello.ensures c.if-a-ne-WORKER_MAGIC_1.false c.if-b-ne-WORKER_MAGIC_2.true
+    _ c.refuse-then-b-ne-WORKER_MAGIC_2.ensures c.stop-then-b-ne-WORKER_MAGIC_2.ensures
 
-pub returns-else-tells-ne-WORKER_MAGIC_2 : goal.returns-else-tells-ne-WORKER_MAGIC_2
-returns-else-tells-ne-WORKER_MAGIC_2 c = search both_greeted
+pub returns : goal.returns
+returns c = both_greeted _ _ _ _ _ _ _ _ _ _ c.in-Ok.ensures _ c.in-Ok-judge_hello.ensures c.if-a-ne-WORKER_MAGIC_1.false c.if-b-ne-WORKER_MAGIC_2.false c.greet.ensures

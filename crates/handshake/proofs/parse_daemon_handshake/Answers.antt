@@ -1,8 +1,8 @@
 -- `handshake::parse_daemon_handshake` meets its contract: what is judged fine fits.
-use mathlib.Core.Path.{refl, ◌∙◌}
-use mathlib.Core.List.{[]}
-use Rattle.handshake.proofs.Filled.{alone_words}
+use Rattle.layouts.specs.Primitive.{version}
+use Rattle.walk_rooms.proofs.Laws.{with_words}
+use Rattle.handshake.proofs.Filled.{alone_fits}
 use Rattle.handshake.proofs.parse_daemon_handshake.Goals as goal
 
-pub returns : goal.returns
-returns c = let all = alone_words _ c.args.entries.now _ [] _ _ _ (c.answer_of.ensures ∙ c.read_alone-said.ensures.answer, (c.read_alone-said.ensures.words, c.read_alone-said.ensures.bytes)) refl in record { answer = all.0; entries = all.1 }
+pub returns-clause-entries : goal.returns-clause-entries
+returns-clause-entries c = with_words _ _ (alone_fits (version c.args.major c.args.minor) c.args.daemon.now) _ _ c.read_alone-said.ensures.entries

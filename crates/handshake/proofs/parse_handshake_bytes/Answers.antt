@@ -1,8 +1,7 @@
 -- `handshake::parse_handshake_bytes` meets its contract: what is judged fine fits.
-use mathlib.Core.Path.{refl}
-use mathlib.Core.List.{[]}
-use Rattle.handshake.proofs.Filled.{both_bytes}
+use Rattle.walk_rooms.proofs.Laws.{with_bytes}
+use Rattle.handshake.proofs.Filled.{both_fits}
 use Rattle.handshake.proofs.parse_handshake_bytes.Goals as goal
 
-pub returns : goal.returns
-returns c = let all = both_bytes _ [] _ c.args.entries.now _ _ _ (c.read.ensures.answer, (c.read.ensures.words, c.read.ensures.bytes)) refl in record { answer = all.0; entries = all.1 }
+pub returns-clause-entries : goal.returns-clause-entries
+returns-clause-entries c = with_bytes _ _ (both_fits c.args.client.now c.args.daemon.now) _ _ c.read.ensures.entries

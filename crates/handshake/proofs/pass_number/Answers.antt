@@ -1,16 +1,10 @@
 -- `handshake::pass_number` meets its contract: a number, or none.
-use native.Mathlib.Omega.{arith}
-use Rattle.pieces.proofs.Numbers.{number_known}
+use borrow.Author.Rules.{rules}
 use Rattle.handshake.proofs.Turns.{number_cut, number_passed}
 use Rattle.handshake.proofs.pass_number.Goals as goal
 
-pub overflow_add-result : goal.overflow_add-result
-overflow_add-result c =
-    let h = number_known c.args.s.now _ _ c.number_at-m.ensures _ c.in-Value.is in
-    omega arith
+pub returns-in_err-number_or_cut : goal.returns-in_err-number_or_cut
+returns-in_err-number_or_cut c = search (rules, number_cut)
 
-pub returns-in-Short : goal.returns-in-Short
-returns-in-Short c = search number_cut
-
-pub returns-in-Value : goal.returns-in-Value
-returns-in-Value c = search number_passed
+pub returns : goal.returns
+returns c = number_passed _ _ _ c.in_ok-number_or_cut.ensures.whole

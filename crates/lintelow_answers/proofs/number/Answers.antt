@@ -1,13 +1,15 @@
 -- `lintelow_answers::number` meets its contract: by what was read.
 use mathlib.Core.Path.{sym, ◌∙◌, ap}
 use Rattle.walk_judge.specs.Judged.{answer_as}
-use Rattle.wire.specs.declared.Read.{Read}
 use Rattle.wire.specs.Answers.{number_read}
 use Rattle.lintelow_answers.specs.Answers.{ended}
 use Rattle.lintelow_answers.proofs.number.Goals as goal
+use Rattle.wire.specs.declared.Read.{Read}
+use Rattle.layouts.specs.declared.Refusal.{Refusal}
+use Rattle.std.specs.Prelude.{Result}
 
-pub returns-in-Value : goal.returns-in-Value
-returns-in-Value c = c.fine.ensures ∙ ap (λ (x : Read). answer_as (ended (number_read x))) (sym c.in-Value.is)
+pub returns-in-Ok : goal.returns-in-Ok
+returns-in-Ok c = c.fine.ensures ∙ ap (λ (x : Result Read Refusal). answer_as (ended (number_read x))) (sym c.in-Ok.is)
 
-pub returns-in-Refused : goal.returns-in-Refused
-returns-in-Refused c = c.refused_answer.ensures ∙ ap (λ (x : Read). answer_as (ended (number_read x))) (sym c.in-Refused.is)
+pub returns-in-Err : goal.returns-in-Err
+returns-in-Err c = c.refused_answer.ensures ∙ ap (λ (x : Result Read Refusal). answer_as (ended (number_read x))) (sym c.in-Err.is)

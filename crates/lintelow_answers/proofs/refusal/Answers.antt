@@ -3,5 +3,5 @@ use mathlib.Core.Path.{sym, ap, refl}
 use Rattle.lintelow_answers.specs.Block.{refusal_of}
 use Rattle.lintelow_answers.proofs.refusal.Goals as goal
 
-pub returns-in-Refused : goal.returns-in-Refused
-returns-in-Refused c = (ap refusal_of (sym c.in-Refused.is), refl)
+pub returns-in-Err : goal.returns-in-Err
+returns-in-Err c = (ap refusal_of (sym c.in-Err.is), refl)

@@ -1,13 +1,14 @@
 -- `lintelow_answers::write` meets its contract: by what was written.
 use mathlib.Core.Path.{sym, ◌∙◌, ap}
 use Rattle.walk_judge.specs.Judged.{answer_as}
-use Rattle.writers_output.specs.declared.Written.{Written}
 use Rattle.writers_output.specs.Answer.{meaning}
 use Rattle.lintelow_answers.specs.Answers.{written}
 use Rattle.lintelow_answers.proofs.write.Goals as goal
+use Rattle.layouts.specs.declared.Refusal.{Refusal}
+use Rattle.std.specs.Prelude.{ℕ, Result}
 
-pub returns-in-Length : goal.returns-in-Length
-returns-in-Length c = c.fine.ensures ∙ ap (λ (x : Written). answer_as (written (meaning x))) (sym c.in-Length.is)
+pub returns-in-Ok : goal.returns-in-Ok
+returns-in-Ok c = c.fine.ensures ∙ ap (λ (x : Result ℕ Refusal). answer_as (written (meaning x))) (sym c.in-Ok.is)
 
-pub returns-in-Refused : goal.returns-in-Refused
-returns-in-Refused c = c.refused_answer.ensures ∙ ap (λ (x : Written). answer_as (written (meaning x))) (sym c.in-Refused.is)
+pub returns-in-Err : goal.returns-in-Err
+returns-in-Err c = c.refused_answer.ensures ∙ ap (λ (x : Result ℕ Refusal). answer_as (written (meaning x))) (sym c.in-Err.is)

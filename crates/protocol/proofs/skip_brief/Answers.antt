@@ -1,4 +1,5 @@
 -- `protocol::skip_brief` meets its contract: nothing, a number, or a fold.
+use Rattle.std.proofs.lemmas.Result.{err_from_is_err_and}
 use Rattle.walk_read.proofs.Filled.{brief_is}
 use Rattle.protocol.proofs.Rows.{brief_nothing, brief_short, brief_number, brief_text}
 use Rattle.protocol.proofs.skip_brief.Goals as goal
@@ -6,14 +7,14 @@ use Rattle.protocol.proofs.skip_brief.Goals as goal
 pub returns-in-Nothing : goal.returns-in-Nothing
 returns-in-Nothing c = brief_nothing _ _ (brief_is _ _ _ c.in_brief-b.ensures.law c.in-Nothing.is)
 
-pub returns-in-Short : goal.returns-in-Short
-returns-in-Short c =
-    brief_short _ _ (brief_is _ _ _ c.in_brief-b.ensures.law c.in-Number.is) _ c.number_at-m.ensures _ c.refuse.ensures
-    c.in-Short.is
+pub returns-in_err-number_or_cut-in-Number : goal.returns-in_err-number_or_cut-in-Number
+returns-in_err-number_or_cut-in-Number c =
+    let p = err_from_is_err_and c.from_residual.result c.from_residual.ensures.1 in
+    rw (p.1, p.2) (brief_short _ _ (brief_is _ _ _ c.in_brief-b.ensures.law c.in-Number.is) _ c.in_err-number_or_cut-in-Number.ensures.cut)
 
-pub returns-in-Value : goal.returns-in-Value
-returns-in-Value c =
-    brief_number _ _ (brief_is _ _ _ c.in_brief-b.ensures.law c.in-Number.is) _ c.number_at-m.ensures _ c.in-Value.is
+pub returns-in_ok-number_or_cut-in-Number : goal.returns-in_ok-number_or_cut-in-Number
+returns-in_ok-number_or_cut-in-Number c =
+    brief_number _ _ (brief_is _ _ _ c.in_brief-b.ensures.law c.in-Number.is) _ c.in_ok-number_or_cut-in-Number.ensures.whole
 
 pub returns-in-Text : goal.returns-in-Text
 returns-in-Text c =

@@ -7,13 +7,13 @@ use Rattle.table_operations.proofs.Shapes.{reply_says, reply_refuses}
 use Rattle.protocol.proofs.Rows.{unknown_skip, row_skip}
 use Rattle.protocol.proofs.skip_daemon_result.Goals as goal
 
-pub returns-in-Unknown : goal.returns-in-Unknown
+pub returns-in_default : goal.returns-in_default
 unfolding skip_daemon_result
-returns-in-Unknown c =
-    unknown_skip (version c.args.major c.args.minor) none 0 0 _ _ (reply_refuses _ _ _ c.reply-f.ensures c.in-Unknown.is) _
+returns-in_default c =
+    unknown_skip (version c.args.major c.args.minor) none 0 0 _ _ (reply_refuses _ _ _ c.reply.ensures c.in_default.is) _
     c.refuse.ensures
 
-pub returns-in-At : goal.returns-in-At
+pub returns : goal.returns
 unfolding skip_daemon_result
-returns-in-At c =
-    c.skip_brief.ensures ∙ row_skip _ none 0 0 _ _ _ _ c.layout.ensures.version c.layout.ensures.first (reply_says _ _ _ _ _ c.reply-f.ensures c.in-At.is).tree
+returns c =
+    c.skip_brief.ensures ∙ row_skip _ none 0 0 _ _ _ _ c.layout.ensures.version c.layout.ensures.first (reply_says _ _ _ _ _ c.reply.ensures c.in-Some.is).tree

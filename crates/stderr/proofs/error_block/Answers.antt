@@ -1,12 +1,12 @@
 -- `stderr::error_block` meets its contract: the table has the block of each kind.
-use Rattle.stderr.proofs.Block.{ported_block, traced_block, short_block}
+use Rattle.table.specs.Claims.{others}
 use Rattle.stderr.proofs.error_block.Goals as goal
 
-pub returns-in-0 : goal.returns-in-0
-returns-in-0 c = search ported_block
+pub returns-in-Ported : goal.returns-in-Ported
+returns-in-Ported c = rw c.in-Ported.is others.ported
 
-pub returns-in-1 : goal.returns-in-1
-returns-in-1 c = search traced_block
+pub returns-in-Traced : goal.returns-in-Traced
+returns-in-Traced c = rw c.in-Traced.is others.traced
 
-pub returns-in_default : goal.returns-in_default
-returns-in_default c = search short_block
+pub returns-in-Short : goal.returns-in-Short
+returns-in-Short c = rw c.in-Short.is others.short

@@ -2,11 +2,11 @@
 use Rattle.stderr.proofs.Block.{loop_refused, loop_stops}
 use Rattle.stderr.proofs.read_stderr_loop.Goals as goal
 
-pub returns-in-Refused : goal.returns-in-Refused
-returns-in-Refused c =
-    loop_refused c.args.s.now c.stderr_loop-l.result c.stderr_loop-l.ensures _ c.in-Refused.is _ c.refused_answer.ensures
+pub returns-in-Err : goal.returns-in-Err
+returns-in-Err c =
+    loop_refused c.args.s.now c.stderr_loop.result c.stderr_loop.ensures _ c.in-Err.is _ c.refused_answer.ensures
 
-pub returns-in-Stops : goal.returns-in-Stops
-returns-in-Stops c =
-    loop_stops c.args.s.now c.stderr_loop-l.result c.stderr_loop-l.ensures _ _ _ c.in-Stops.is _ c.stopped_record.ensures _
+pub returns-in-Ok : goal.returns-in-Ok
+returns-in-Ok c =
+    loop_stops c.args.s.now c.stderr_loop.result c.stderr_loop.ensures _ _ _ c.in-Ok.is _ c.stopped_record.ensures _
     c.answer.ensures

@@ -1,8 +1,7 @@
 -- `stderr::read_stderr_with_error` meets its contract: what is judged fine fits.
-use mathlib.Core.Path.{refl}
-use mathlib.Core.List.{[]}
-use Rattle.stderr.proofs.Block.{error_words}
+use Rattle.walk_rooms.proofs.Laws.{with_words}
+use Rattle.stderr.proofs.Block.{with_error_fits}
 use Rattle.stderr.proofs.read_stderr_with_error.Goals as goal
 
-pub returns : goal.returns
-returns c = let all = error_words _ _ _ c.args.entries.now _ [] _ (c.read.ensures.answer, (c.read.ensures.words, c.read.ensures.bytes)) _ c.error_kind.ensures refl in record { answer = all.0; entries = all.1 }
+pub returns-clause-entries : goal.returns-clause-entries
+returns-clause-entries c = rw (← c.error_kind.ensures) (with_words _ _ (with_error_fits _ c.args.s.now) _ _ c.read.ensures.entries)

@@ -1,10 +1,8 @@
 -- `table_operations::arguments` meets its contract: two bytes of a row.
+use mathlib.Core.Path.{◌∙◌}
 use Rattle.table.specs.declared.Row.{Row}
-use Rattle.table_operations.proofs.Search.{no_row, a_row}
+use Rattle.table_operations.proofs.Search.{by_one, shaped}
 use Rattle.table_operations.proofs.arguments.Goals as goal
 
-pub returns-then-x-eq0 : goal.returns-then-x-eq0
-returns-then-x-eq0 c = no_row (λ (r : Row). r.arguments) (λ (r : Row). r.arguments_kind) _ _ _ c.row_code-x.ensures c.if-x-eq0.true
-
 pub returns : goal.returns
-returns c = a_row (λ (r : Row). r.arguments) (λ (r : Row). r.arguments_kind) _ _ _ c.row_code-x.ensures c.if-x-eq0.false
+returns c = c.packed_shape.ensures ∙ by_one _ _ ∙ shaped (λ (r : Row). r.arguments) (λ (r : Row). r.arguments_kind) _ _ _ c.row_code.ensures

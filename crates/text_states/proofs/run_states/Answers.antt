@@ -1,11 +1,11 @@
 use Rattle.text_states.proofs.Runs.{begun, further, done}
 use Rattle.text_states.proofs.run_states.Goals as goal
 
-pub loop-i-init : goal.loop-i-init
-loop-i-init c = search begun
+pub loop-b-init : goal.loop-b-init
+loop-b-init c = search begun
 
-pub loop-i-preserved : goal.loop-i-preserved
-loop-i-preserved c = search further
+pub loop-b-preserved : goal.loop-b-preserved
+loop-b-preserved c = search further
 
 pub returns : goal.returns
 returns c = search done

@@ -5,14 +5,14 @@ use Rattle.views.proofs.Laws.{part, part_begins, empty, empty_begins}
 use Rattle.views.proofs.part.Goals as goal
 
 pub overflow_add-end : goal.overflow_add-end
-overflow_add-end c = omega (arith, (inside _ _ _ _ c.find.ensures _ _ c.in-Part.is).within)
+overflow_add-end g c = omega (arith, (inside _ _ _ _ c.find.ensures _ _ c.in-Ok.is).within)
 
 pub slice_bounds-result-end : goal.slice_bounds-result-end
-slice_bounds-result-end c = omega (arith, (inside _ _ _ _ c.find.ensures _ _ c.in-Part.is).within)
+slice_bounds-result-end g c = omega (arith, (inside _ _ _ _ c.find.ensures _ _ c.in-Ok.is).within)
 
-pub returns-in-Part : goal.returns-in-Part
-returns-in-Part c =
-    record { part = part _ _ _ _ c.find.ensures _ _ c.in-Part.is; place = part_begins _ _ _ _ c.find.ensures _ _ c.in-Part.is _ _ }
+pub returns-in-Ok : goal.returns-in-Ok
+returns-in-Ok g c =
+    record { part = part _ _ _ _ c.find.ensures _ _ c.in-Ok.is; place = part_begins _ _ _ _ c.find.ensures _ _ c.in-Ok.is _ _ }
 
-pub returns-in-Refused : goal.returns-in-Refused
-returns-in-Refused c = record { part = search empty; place = empty_begins _ _ _ _ c.find.ensures _ c.in-Refused.is _ _ }
+pub returns-in-Err : goal.returns-in-Err
+returns-in-Err g c = record { part = search empty; place = empty_begins _ _ _ _ c.find.ensures _ c.in-Err.is _ _ }

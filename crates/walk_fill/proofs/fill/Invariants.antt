@@ -6,7 +6,7 @@ use Rattle.walk_fill.proofs.Folding.{to_come}
 use Rattle.walk_fill.proofs.fill.Given as goal
 
 abbrev pub invariant-loop-f : goal.invariant-loop-f
-invariant-loop-f l = Fills l.s (rooms l.initial.words l.word l.initial.bytes l.byte l.initial.payload 0) (pieces_there l.layout l.s l.from) (rooms l.words l.w l.bytes l.b l.payload l.p) (to_come l.s (version_of l.layout) l.at l.pc l.reps l.body l.group)
+invariant-loop-f g l = Fills g.T.Room.laid l.s (rooms l.initial.entries l.place l.initial.payload 0) (pieces_there l.layout l.s l.from) (rooms l.entries l.e l.payload l.p) (to_come l.s (version_of l.layout) l.at l.pc l.reps l.body l.group)
 
 abbrev pub decreases-loop-f : goal.decreases-loop-f
-decreases-loop-f l = fuel_of l.s l.at l.pc l.reps l.group
+decreases-loop-f g l = fuel_of l.s l.at l.pc l.reps l.group

@@ -3,41 +3,22 @@ use Rattle.pieces.proofs.Numbers.{number_known, number_short}
 use Rattle.walk_fill.proofs.Pieces.{along_start, along_end, along_past, along_on}
 use Rattle.walk_fill.proofs.fill_series.Goals as goal
 
-pub loop-pend-init : goal.loop-pend-init
-loop-pend-init c = along_start _ _ _ _ _ _ _ _ _
+pub loop-more-init : goal.loop-more-init
+loop-more-init g c = along_start _ _ _ _ _ _ _ _
 
-pub shape_of-words-in-None : goal.shape_of-words-in-None
-shape_of-words-in-None c = c.loop-pend.invariant.wide
+pub returns-clause-law : goal.returns-clause-law
+returns-clause-law g c = along_end _ _ _ _ _ _ _ _ _ _ _ _ _ c.loop-more.invariant _ c.after_next.ensures c.in_default.is
 
-pub shape_of-bytes-in-None : goal.shape_of-bytes-in-None
-shape_of-bytes-in-None c = c.loop-pend.invariant.long
-
-pub returns-in-None : goal.returns-in-None
-returns-in-None c =
-    record { law = along_end _ _ _ _ _ _ _ _ _ _ _ _ _ _ _ _ c.loop-pend.invariant _ c.after_next-m.ensures c.in-None.is; on = c.loop-pend.invariant.on }
-
-pub shape_of-words-in-Short : goal.shape_of-words-in-Short
-shape_of-words-in-Short c = c.loop-pend.invariant.wide
-
-pub shape_of-bytes-in-Short : goal.shape_of-bytes-in-Short
-shape_of-bytes-in-Short c = c.loop-pend.invariant.long
-
-pub returns-in-Short : goal.returns-in-Short
-returns-in-Short c =
-    record {
-      law = along_past _ _ _ _ _ _ _ _ _ _ _ _ _ _ _ _ c.loop-pend.invariant _ c.after_next-m.ensures _ _ c.in-String.is
-          (number_short c.args.s.now _ _ c.number_at-d.ensures c.in-Short.is);
-      on = c.requires;
-    }
+pub returns-in_default-number_at-clause-law : goal.returns-in_default-number_at-clause-law
+returns-in_default-number_at-clause-law g c =
+    along_past _ _ _ _ _ _ _ _ _ _ _ _ _ c.loop-more.invariant _ c.after_next.ensures _ _ c.in-Some.is (number_short c.args.s.now _ _ c.number_at.ensures c.in_default-number_at.is)
 
 pub fill_text-t-requires : goal.fill_text-t-requires
-fill_text-t-requires c = number_known _ _ _ c.number_at-d.ensures _ c.in-Value.is
+fill_text-t-requires g c = number_known _ _ _ c.number_at.ensures _ c.in-Some-number_at.is
 
-pub loop-pend-smaller : goal.loop-pend-smaller
-loop-pend-smaller c =
-    omega (arith, number_known c.args.s.now _ _ c.number_at-d.ensures _ c.in-Value.is, c.fill_text-t.ensures.on)
+pub loop-more-smaller : goal.loop-more-smaller
+loop-more-smaller g c = omega (arith, number_known c.args.s.now _ _ c.number_at.ensures _ c.in-Some-number_at.is, c.fill_text-t.ensures.on)
 
-pub loop-pend-preserved : goal.loop-pend-preserved
-loop-pend-preserved c =
-    along_on _ _ _ _ _ _ _ _ _ _ _ _ _ _ _ _ c.loop-pend.invariant _ c.after_next-m.ensures _ _ c.in-String.is _ _ c.fill_text-t.result
-    c.fill_text-t.ensures.on c.fill_text-t.ensures.law
+pub loop-more-preserved : goal.loop-more-preserved
+loop-more-preserved g c =
+    along_on _ _ _ _ _ _ _ _ _ _ _ _ _ c.loop-more.invariant _ c.after_next.ensures _ _ c.in-Some.is _ c.fill_text-t.result c.fill_text-t.ensures.on c.fill_text-t.ensures.law

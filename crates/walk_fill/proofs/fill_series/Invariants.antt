@@ -5,8 +5,8 @@ use Rattle.table.specs.Table.{role_of}
 use Rattle.walk_fill.proofs.Pieces.{Along}
 use Rattle.walk_fill.proofs.fill_series.Given as goal
 
-abbrev pub invariant-loop-pend : goal.invariant-loop-pend
-invariant-loop-pend l = Along l.s l.initial.words l.word l.initial.bytes l.byte (role_of l.role) l.extra l.from l.count l.words l.w l.bytes l.b l.at l.p l.l
+abbrev pub invariant-loop-more : goal.invariant-loop-more
+invariant-loop-more g l = Along g.T.Room.laid l.s l.initial.entries l.place (role_of l.role) l.extra l.from l.count l.entries l.e l.at l.p l.l
 
-abbrev pub decreases-loop-pend : goal.decreases-loop-pend
-decreases-loop-pend l = length l.s - l.at
+abbrev pub decreases-loop-more : goal.decreases-loop-more
+decreases-loop-more g l = length l.s - l.at

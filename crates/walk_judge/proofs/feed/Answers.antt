@@ -1,23 +1,26 @@
 -- `walk_judge::feed` meets its contract: a string, framed data, or an item that begins with a number.
-use Rattle.walk_take.proofs.Strings.{series_took}
+use mathlib.Core.Path.{refl}
+use Rattle.std.proofs.lemmas.Result.{err_from_is_err_and}
 use Rattle.walk_judge.proofs.Feeding.{fed_refused, fed_text, frames_refused, frames_fed}
 use Rattle.walk_judge.proofs.feed.Goals as goal
 
-pub returns-in-Refused : goal.returns-in-Refused
-returns-in-Refused c =
-    record { law = fed_refused c.args.s.now _ _ _ _ _ _ c.requires.0 c.if-kind-eq-STR.true _ _ c.judge_text-k.ensures.law _ _ c.in-Refused.is; on = tt }
+pub returns-in_err-k-clause-law : goal.returns-in_err-k-clause-law
+returns-in_err-k-clause-law c =
+    let p = err_from_is_err_and c.from_residual.result c.from_residual.ensures.1 in
+    rw (p.1, p.2) (fed_refused c.args.s.now _ _ _ _ _ _ c.requires.0 c.if-kind-eq-STR.true _ _ c.in_err-k.ensures.law _ _ refl)
 
-pub returns-in-Past : goal.returns-in-Past
-returns-in-Past c =
-    record { law = fed_text c.args.s.now _ _ _ _ _ _ c.requires.0 c.if-kind-eq-STR.true _ _ c.judge_text-k.ensures.law _ _ _ c.in-Past.is; on = series_took c.args.s.now _ _ _ _ c.judge_text-k.ensures.on c.in-Past.is }
+pub returns-then-kind-eq-STR : goal.returns-then-kind-eq-STR
+returns-then-kind-eq-STR c =
+    record { law = fed_text c.args.s.now _ _ _ _ _ _ c.requires.0 c.if-kind-eq-STR.true _ _ c.in_ok-k.ensures.law _ _ _ refl; on = c.in_ok-k.ensures.on }
 
-pub returns-in-Refused-k : goal.returns-in-Refused-k
-returns-in-Refused-k c =
-    record { law = frames_refused c.args.s.now _ _ _ _ _ _ c.requires.0 _ c.if-kind-eq-FRAMES.true _ c.judge_frames-k.ensures.law _ c.in-Refused-k.is; on = tt }
+pub returns-in_err-k-2-clause-law : goal.returns-in_err-k-2-clause-law
+returns-in_err-k-2-clause-law c =
+    let p = err_from_is_err_and c.from_residual-in_err-k-2.result c.from_residual-in_err-k-2.ensures.1 in
+    rw (p.1, p.2) (frames_refused c.args.s.now _ _ _ _ _ _ c.requires.0 _ c.if-kind-eq-FRAMES.true _ c.in_err-k-2.ensures.law _ refl)
 
-pub returns-in-Past-k : goal.returns-in-Past-k
-returns-in-Past-k c =
-    record { law = frames_fed c.args.s.now _ _ _ _ _ _ c.requires.0 _ c.if-kind-eq-FRAMES.true _ c.judge_frames-k.ensures.law _ _ c.in-Past-k.is; on = series_took c.args.s.now _ _ _ _ c.judge_frames-k.ensures.on c.in-Past-k.is }
+pub returns-then-kind-eq-FRAMES : goal.returns-then-kind-eq-FRAMES
+returns-then-kind-eq-FRAMES c =
+    record { law = frames_fed c.args.s.now _ _ _ _ _ _ c.requires.0 _ c.if-kind-eq-FRAMES.true _ c.in_ok-k-2.ensures.law _ _ refl; on = c.in_ok-k-2.ensures.on }
 
 pub feed_number-requires : goal.feed_number-requires
 feed_number-requires c = (c.requires.0, c.requires.1, c.if-kind-eq-STR.false, c.if-kind-eq-FRAMES.false)

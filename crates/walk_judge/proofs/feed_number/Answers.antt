@@ -1,43 +1,36 @@
 -- `walk_judge::feed_number` meets its contract: a flag or count, or a number and what follows it.
 use native.Mathlib.Omega.{arith}
-use Rattle.pieces.proofs.Numbers.{number_known}
-use Rattle.walk_judge.proofs.Feeding.{number_cuts, fed_times, after_refused, after_fed, after_took}
+use mathlib.Core.Path.{refl}
+use Rattle.std.proofs.lemmas.Result.{err_from_is_err_and}
+use Rattle.walk_judge.proofs.Feeding.{number_cuts, fed_times, after_refused, after_fed}
 use Rattle.walk_judge.proofs.feed_number.Goals as goal
 
 pub overflow_add-on : goal.overflow_add-on
-overflow_add-on c =
-    let h = number_known c.args.s.now _ _ c.number_at-m.ensures _ c.in-Value.is in
-    omega arith
+overflow_add-on c = let h = c.in_ok-x.ensures.whole in omega arith
+
+pub returns-in_err-x-clause-law : goal.returns-in_err-x-clause-law
+returns-in_err-x-clause-law c =
+    let p = err_from_is_err_and c.from_residual.result c.from_residual.ensures.1 in
+    rw (p.1, p.2) (number_cuts _ _ _ _ _ _ _ c.requires.0 c.requires.1 c.requires.2 c.requires.3 _ c.in_err-x.ensures.cut)
 
 pub returns-then-kind-gt-QUIET : goal.returns-then-kind-gt-QUIET
 returns-then-kind-gt-QUIET c =
+    let h = c.in_ok-x.ensures.whole in
     record {
-      law = fed_times _ _ _ _ _ _ _ c.requires.0 c.requires.1 c.requires.2 c.requires.3 _ c.number_at-m.ensures _ c.in-Value.is c.if-kind-gt-QUIET.true _
-          c.times-times.ensures;
-      on = (omega arith, (number_known c.args.s.now _ _ c.number_at-m.ensures _ c.in-Value.is).0);
+      law = fed_times _ _ _ _ _ _ _ c.requires.0 c.requires.1 c.requires.2 c.requires.3 _ h c.if-kind-gt-QUIET.true _ c.times.ensures;
+      on = (omega arith, h.0);
     }
 
-pub returns-in-Short : goal.returns-in-Short
-returns-in-Short c =
-    record {
-      law = number_cuts _ _ _ _ _ _ _ c.requires.0 c.requires.1 c.requires.2 c.requires.3 _ c.number_at-m.ensures _ c.refuse.ensures
-          c.in-Short.is;
-      on = tt;
-    }
+pub returns-in_err-k-clause-law : goal.returns-in_err-k-clause-law
+returns-in_err-k-clause-law c =
+    let p = err_from_is_err_and c.from_residual-in_err-k.result c.from_residual-in_err-k.ensures.1 in
+    rw (p.1, p.2) (λ room. after_refused _ _ _ _ _ _ _ c.requires.0 c.requires.1 c.requires.2 c.requires.3 _ c.in_ok-x.ensures.whole
+    (omega (arith, c.if-kind-gt-QUIET.false, c.requires)) _ refl _ _ c.in_err-k.ensures.law room _ refl)
 
-pub returns-in-Refused : goal.returns-in-Refused
-returns-in-Refused c =
+pub returns : goal.returns
+returns c =
     record {
-      law = λ room. after_refused _ _ _ _ _ _ _ c.requires.0 c.requires.1 c.requires.2 c.requires.3 _ c.number_at-m.ensures _ c.in-Value.is
-          (omega (arith, c.if-kind-gt-QUIET.false, c.requires)) _ c.target_for-target.ensures _ _ c.judge_after-k.ensures.law room _ c.in-Refused.is;
-      on = tt;
-    }
-
-pub returns-in-Past : goal.returns-in-Past
-returns-in-Past c =
-    record {
-      law = λ room. after_fed _ _ _ _ _ _ _ c.requires.0 c.requires.1 c.requires.2 c.requires.3 _ c.number_at-m.ensures _ c.in-Value.is
-          (omega (arith, c.if-kind-gt-QUIET.false, c.requires)) _ c.target_for-target.ensures _ _ c.judge_after-k.ensures.law room _ _ c.in-Past.is;
-      on = after_took c.args.s.now _ _ _ _ (number_known c.args.s.now _ _ c.number_at-m.ensures _ c.in-Value.is).0 c.judge_after-k.ensures.on
-          c.in-Past.is;
+      law = λ room. after_fed _ _ _ _ _ _ _ c.requires.0 c.requires.1 c.requires.2 c.requires.3 _ c.in_ok-x.ensures.whole
+          (omega (arith, c.if-kind-gt-QUIET.false, c.requires)) _ c.target_for.ensures _ _ c.in_ok-k.ensures.law room _ _ refl;
+      on = (c.in_ok-k.ensures.on, c.in_ok-x.ensures.whole.0);
     }

@@ -19,21 +19,21 @@ loop-f-smaller-then-f-eq-QUIET c = quiet_less c.args.s.now _ _ _ _ c.next-f.resu
 pub loop-f-preserved-then-f-eq-QUIET : goal.loop-f-preserved-then-f-eq-QUIET
 loop-f-preserved-then-f-eq-QUIET c = going_quiet _ _ _ _ _ _ _ _ _ _ c.next-f.ensures.law _ _ _ _ c.loop-f.invariant c.if-f-eq-QUIET.true
 
-pub feed-k-requires : goal.feed-k-requires
-feed-k-requires c = (c.if-f-eq-END.false, c.if-f-eq-QUIET.false)
+pub feed-requires : goal.feed-requires
+feed-requires c = (c.if-f-eq-END.false, c.if-f-eq-QUIET.false)
 
-pub returns-in-Refused : goal.returns-in-Refused
-returns-in-Refused c =
+pub returns-in-Err : goal.returns-in-Err
+returns-in-Err c =
     record {
-      answer = going_refused _ _ _ _ _ _ _ _ _ _ c.next-f.ensures.law _ _ _ _ c.loop-f.invariant _ _ c.feed-k.ensures.law _ _ c.in-Refused.is c.refuse.ensures.answer;
+      answer = going_refused _ _ _ _ _ _ _ _ _ _ c.next-f.ensures.law _ _ _ _ c.loop-f.invariant _ _ c.feed.ensures.law _ _ c.in-Err.is c.refuse.ensures.answer;
       window = refused_empty c.refuse.result _ c.refuse.ensures.said c.args.window.now c.args.entries
           (entries_of (pieces_of c.args.layout c.args.s.now c.args.from));
     }
 
 pub loop-f-smaller : goal.loop-f-smaller
 loop-f-smaller c =
-    fed_less c.args.s.now _ _ _ _ c.feed-k.result _ _ _ _ _ _ _ _ c.feed-k.ensures.on c.in-Past.is (omega arith)
+    fed_less c.args.s.now _ _ _ _ c.feed.result _ _ _ _ _ _ _ _ c.feed.ensures.on c.in-Ok.is (omega arith)
 
 pub loop-f-preserved : goal.loop-f-preserved
 loop-f-preserved c =
-    going_on _ _ _ _ _ _ _ _ _ _ c.next-f.ensures.law _ _ _ _ c.loop-f.invariant _ _ c.feed-k.ensures.law _ _ _ _ _ _ c.in-Past.is _ (c.note-present.ensures _ _) refl
+    going_on _ _ _ _ _ _ _ _ _ _ c.next-f.ensures.law _ _ _ _ c.loop-f.invariant _ _ c.feed.ensures.law _ _ _ _ _ _ c.in-Ok.is _ (c.note-present.ensures _ _) refl

@@ -1,9 +1,9 @@
 use borrow.Author.Rules.{rules}
-use mathlib.Core.Path.{ap, subst}
+use mathlib.Core.Path.{ap}
 use native.Mathlib.Omega.{arith}
+use Rattle.std.proofs.lemmas.Result.{err_from_is_err_and}
 use Rattle.layouts.specs.Shape.{Tree}
 use Rattle.layouts.specs.Pieces.{run, skip_of}
-use Rattle.walk_pass.specs.Passing.{MovedOn}
 use Rattle.walk_pass.proofs.Skipping.{skip_end, skip_moved}
 use Rattle.walk_pass.proofs.skip.Goals as goal
 
@@ -14,14 +14,14 @@ pub returns-then-f-eq-END : goal.returns-then-f-eq-END
 returns-then-f-eq-END c =
     skip_end _ _ _ _ _ _ _ _ c.loop-f.invariant _ c.next-f.ensures.law (omega arith)
 
-pub returns-in-Refused : goal.returns-in-Refused
-returns-in-Refused c =
-    skip_moved _ _ _ _ _ _ _ _ c.loop-f.invariant _ c.next-f.ensures.law c.if-f-eq-END.false _ c.pass_item-k.ensures.law _ c.in-Refused.is
+pub returns-in_err-k : goal.returns-in_err-k
+returns-in_err-k c =
+    let p = err_from_is_err_and c.from_residual.result c.from_residual.ensures.1 in
+    rw (p.1, p.2) (skip_moved _ _ _ _ _ _ _ _ c.loop-f.invariant _ c.next-f.ensures.law c.if-f-eq-END.false _ c.pass_item.ensures.law _ c.in_err-k.was)
 
 pub loop-f-smaller : goal.loop-f-smaller
-loop-f-smaller c =
-    subst (MovedOn c.args.s.now _ c.next-f.result) c.in-Past.is c.pass_item-k.ensures.on _ _ _ c.next-f.ensures.falls (search rules)
+loop-f-smaller c = c.in_ok-k.ensures.on _ _ _ c.next-f.ensures.falls (search rules)
 
 pub loop-f-preserved : goal.loop-f-preserved
 loop-f-preserved c =
-    skip_moved _ _ _ _ _ _ _ _ c.loop-f.invariant _ c.next-f.ensures.law c.if-f-eq-END.false _ c.pass_item-k.ensures.law _ c.in-Past.is
+    skip_moved _ _ _ _ _ _ _ _ c.loop-f.invariant _ c.next-f.ensures.law c.if-f-eq-END.false _ c.pass_item.ensures.law _ c.in_ok-k.was

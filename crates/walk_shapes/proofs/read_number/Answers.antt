@@ -1,12 +1,15 @@
 -- `walk_shapes::read_number` meets its contract: a number, or none.
 use mathlib.Core.Bool.{false}
+use Rattle.std.proofs.lemmas.Result.{err_from_is_err_and}
 use Rattle.table_operations.proofs.Itself.{plain}
 use Rattle.walk_shapes.proofs.Brief.{short_said, number_said}
 use Rattle.walk_shapes.proofs.read_number.Goals as goal
 
-pub returns-in-Short : goal.returns-in-Short
-returns-in-Short c = search short_said
+pub returns-in_err-x : goal.returns-in_err-x
+returns-in_err-x c =
+    let p = err_from_is_err_and c.from_residual.result c.from_residual.ensures.1 in
+    rw (p.1, p.2) (short_said _ _ c.requires.0 _ _ c.in_err-x.ensures.cut)
 
-pub returns-in-Value : goal.returns-in-Value
-returns-in-Value c =
-    number_said _ _ c.requires.0 _ _ c.number_at-m.ensures _ _ c.in-Value.is (plain _ false _ c.requires.1)
+pub returns : goal.returns
+returns c =
+    number_said _ _ c.requires.0 _ _ _ c.in_ok-x.ensures.whole (plain _ false _ c.requires.1)

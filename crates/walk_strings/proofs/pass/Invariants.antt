@@ -5,8 +5,8 @@ use Rattle.walk_strings.proofs.Series.{Passing}
 use Rattle.walk_strings.specs.Strings.{Strides}
 use Rattle.walk_strings.proofs.pass.Given as goal
 
-abbrev pub invariant-loop-pend : goal.invariant-loop-pend
-invariant-loop-pend l = Passing l.s l.extra l.from l.pend l.left l.at l.p l.l × Strides l.expected l.step
+abbrev pub invariant-loop-more : goal.invariant-loop-more
+invariant-loop-more l = Passing l.s l.extra l.from l.pend l.left l.at l.p l.l × Strides l.expected l.step
 
-abbrev pub decreases-loop-pend : goal.decreases-loop-pend
-decreases-loop-pend l = length l.s - l.at
+abbrev pub decreases-loop-more : goal.decreases-loop-more
+decreases-loop-more l = length l.s - l.at

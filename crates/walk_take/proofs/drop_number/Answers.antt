@@ -1,17 +1,12 @@
 -- `walk_take::drop_number` meets its contract: a number, or none.
-use native.Mathlib.Omega.{arith}
-use Rattle.pieces.proofs.Numbers.{number_known}
-use Rattle.walk_take.proofs.Numbers.{dropped_cut, dropped_value, value_took}
+use Rattle.std.proofs.lemmas.Result.{err_from_is_err_and}
+use Rattle.walk_take.proofs.Numbers.{dropped_cut, dropped_value}
 use Rattle.walk_take.proofs.drop_number.Goals as goal
 
-pub overflow_add-result : goal.overflow_add-result
-overflow_add-result c =
-    let h = number_known c.args.s.now _ _ c.number_at-m.ensures _ c.in-Value.is in
-    omega arith
+pub returns-in_err-number_or_cut-clause-law : goal.returns-in_err-number_or_cut-clause-law
+returns-in_err-number_or_cut-clause-law c =
+    let p = err_from_is_err_and c.from_residual.result c.from_residual.ensures.1 in
+    rw (p.1, p.2) (dropped_cut _ _ _ c.in_err-number_or_cut.ensures.cut _)
 
-pub returns-in-Short : goal.returns-in-Short
-returns-in-Short c = record { law = dropped_cut _ _ _ c.number_at-m.ensures _ _ c.refuse.ensures c.in-Short.is; on = tt }
-
-pub returns-in-Value : goal.returns-in-Value
-returns-in-Value c =
-    record { law = dropped_value _ _ _ c.number_at-m.ensures _ c.in-Value.is _; on = value_took c.args.s.now _ _ c.number_at-m.ensures _ c.in-Value.is }
+pub returns-clause-law : goal.returns-clause-law
+returns-clause-law c = dropped_value _ _ _ c.in_ok-number_or_cut.ensures.whole _

@@ -1,20 +1,18 @@
 -- `wire::judge_set` meets its contract: the count, then the strings.
-use native.Mathlib.Omega.{arith}
-use Rattle.pieces.proofs.Numbers.{number_known}
+use mathlib.Core.Path.{refl}
+use Rattle.std.proofs.lemmas.Result.{err_from_is_err_and}
 use Rattle.wire.proofs.Sets.{set_cut, set_refused, set_read_lem}
 use Rattle.wire.proofs.judge_set.Goals as goal
 
-pub overflow_add-first : goal.overflow_add-first
-overflow_add-first c =
-    omega (arith, number_known c.args.s.now _ _ c.number_at.ensures _ c.in-Value.is)
+pub returns-in_err-value : goal.returns-in_err-value
+returns-in_err-value c =
+    let p = err_from_is_err_and c.from_residual.result c.from_residual.ensures.1 in
+    rw (p.1, p.2) (set_cut _ _ _ c.in_err-value.ensures.cut _)
 
-pub returns-in-Short : goal.returns-in-Short
-returns-in-Short c = set_cut _ _ _ c.number_at.ensures c.in-Short.is _ c.refuse.ensures _
+pub returns-in_err-t : goal.returns-in_err-t
+returns-in_err-t c =
+    let p = err_from_is_err_and c.from_residual-in_err-t.result c.from_residual-in_err-t.ensures.1 in
+    rw (p.1, p.2) (set_refused _ _ _ c.in_ok-value.ensures.whole _ _ _ _ c.in_err-t.ensures.law _ refl)
 
-pub returns-in-Refused : goal.returns-in-Refused
-returns-in-Refused c =
-    set_refused _ _ _ c.number_at.ensures _ c.in-Value.is _ _ _ _ c.judge_series.ensures.law _ c.in-Refused.is
-
-pub returns-in-Past : goal.returns-in-Past
-returns-in-Past c =
-    set_read_lem _ _ _ c.number_at.ensures _ c.in-Value.is _ _ _ _ c.judge_series.ensures.law _ _ c.in-Past.is
+pub returns : goal.returns
+returns c = set_read_lem _ _ _ c.in_ok-value.ensures.whole _ _ _ _ c.in_ok-t.ensures.law _ _ refl

@@ -1,17 +1,20 @@
 -- `writers_sets::judge_entry` meets its contract, by the place of the entry and its text.
 use native.Mathlib.Omega.{arith}
+use Rattle.std.proofs.lemmas.Result.{err_from_is_err_and}
 use Rattle.entries.proofs.Places.{inside}
 use Rattle.writers_sets.proofs.Sets.{entry_refused, entry_taken_lem}
 use Rattle.writers_sets.proofs.judge_entry.Goals as goal
 
 pub overflow_add-end : goal.overflow_add-end
-overflow_add-end c = omega (arith, (inside _ _ _ _ c.find.ensures _ _ c.in-Part.is).within)
+overflow_add-end g c = omega (arith, (inside _ _ _ _ c.find.ensures _ _ c.in_ok-k.was).within)
 
 pub slice_bounds-judge_text-end : goal.slice_bounds-judge_text-end
-slice_bounds-judge_text-end c = omega (arith, (inside _ _ _ _ c.find.ensures _ _ c.in-Part.is).within)
+slice_bounds-judge_text-end g c = omega (arith, (inside _ _ _ _ c.find.ensures _ _ c.in_ok-k.was).within)
 
-pub returns-in-Part : goal.returns-in-Part
-returns-in-Part c = search entry_taken_lem
+pub returns-in_err-k : goal.returns-in_err-k
+returns-in_err-k g c =
+    let p = err_from_is_err_and c.from_residual.result c.from_residual.ensures.1 in
+    rw (p.1, p.2) (entry_refused _ _ _ _ c.find.ensures _ c.in_err-k.was)
 
-pub returns-in-Refused : goal.returns-in-Refused
-returns-in-Refused c = search entry_refused
+pub returns : goal.returns
+returns g c = entry_taken_lem _ _ _ _ c.find.ensures _ _ c.in_ok-k.was _ c.judge_text.ensures

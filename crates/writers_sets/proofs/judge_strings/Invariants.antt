@@ -1,11 +1,6 @@
 -- `writers_sets::judge_strings` meets its contract: judging what remains gives the same answer at every turn.
-use Prim.Native.Nat.{◌-◌}
-use Rattle.entries.specs.Entries.{numbers_in}
 use Rattle.writers_sets.proofs.Sets.{Judging}
 use Rattle.writers_sets.proofs.judge_strings.Given as goal
 
 abbrev pub invariant-loop-i : goal.invariant-loop-i
-invariant-loop-i l = Judging l.s (numbers_in l.words l.bytes) l.count l.room l.before l.total l.i
-
-abbrev pub decreases-loop-i : goal.decreases-loop-i
-decreases-loop-i l = l.count - l.i
+invariant-loop-i g l = Judging l.s (g.T.Form.numbers l.entries) l.count l.room l.before l.total l.i

@@ -16,7 +16,7 @@ returns-then-x-lt10 c =
 pub loop-i-preserved : goal.loop-i-preserved
 loop-i-preserved c =
     let l = c.loop-i in
-    (digits_turn l.text l.x _ l.i c.loop-i-test.true (omega arith) c.if-x-lt10.false l.invariant.0, search rules, search rules)
+    (digits_turn l.text l.x _ l.i c.loop-i-test.true (omega arith) c.if-x-lt10.false l.invariant.0, search rules)
 
 pub returns : goal.returns
 returns c =

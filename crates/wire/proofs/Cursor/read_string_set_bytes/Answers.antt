@@ -1,11 +1,12 @@
 -- `wire::Cursor::read_string_set_bytes` meets its contract: what is judged fine fits.
-use borrow.Author.Rules.{rules}
-use mathlib.Core.Path.{refl}
-use mathlib.Core.List.{[]}
-use Rattle.wire.proofs.Sets.{set_bytes_lem}
+use Rattle.layouts.specs.Calls.{read_string_set}
+use Rattle.walk_rooms.proofs.Laws.{with_bytes}
+use Rattle.wire.specs.Answers.{set_entries}
+use Rattle.wire.proofs.Sets.{set_fits}
 use Rattle.wire.proofs.Cursor.read_string_set_bytes.Goals as goal
 
-pub returns : goal.returns
-returns c =
-    let h = set_bytes_lem c.args.s.now _ _ [] _ c.args.entries.now _ (c.read_set.ensures.answer, (c.read_set.ensures.words, c.read_set.ensures.bytes)) refl in
-    record { answer = h.0; room = h.1; held = (λ i. (c.shared_slice_known-1.given i).fits, search rules) }
+pub returns-clause-room : goal.returns-clause-room
+returns-clause-room c =
+    let s = c.args.s.now in
+    let at = c.args.self.at in
+    with_bytes (read_string_set s at) (set_entries s at) (set_fits s at) _ _ c.read_set.ensures.entries

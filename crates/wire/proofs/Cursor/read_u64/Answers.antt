@@ -1,15 +1,13 @@
 -- `wire::Cursor::read_u64` meets its contract.
-use native.Mathlib.Omega.{arith}
-use Rattle.pieces.proofs.Numbers.{number_known}
+use mathlib.Core.Path.{refl}
+use Rattle.std.proofs.lemmas.Result.{err_from_is_err_and}
 use Rattle.wire.proofs.Numbers.{number_read, number_cut}
 use Rattle.wire.proofs.Cursor.read_u64.Goals as goal
 
-pub overflow_add-result : goal.overflow_add-result
-overflow_add-result c =
-    omega (arith, number_known c.args.s.now _ _ c.number_at.ensures _ c.in-Value.is)
+pub returns-in_err-value : goal.returns-in_err-value
+returns-in_err-value c =
+    let p = err_from_is_err_and c.from_residual.result c.from_residual.ensures.1 in
+    rw (p.1, p.2) (number_cut _ _ _ c.in_err-value.ensures.cut)
 
-pub returns-in-Value : goal.returns-in-Value
-returns-in-Value c = number_read _ _ _ c.number_at.ensures _ _ c.in-Value.is (omega arith)
-
-pub returns-in-Short : goal.returns-in-Short
-returns-in-Short c = search number_cut
+pub returns : goal.returns
+returns c = number_read _ _ _ _ c.in_ok-value.ensures.whole refl

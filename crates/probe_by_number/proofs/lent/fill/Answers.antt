@@ -1,6 +1,0 @@
-use lib.ListN.{length-set}
-use native.Mathlib.Omega.{arith}
-use Rattle.probe_by_number.proofs.lent.fill.Goals as goal
-
-pub loop-i-preserved : goal.loop-i-preserved
-loop-i-preserved c = simp length-set (omega arith)

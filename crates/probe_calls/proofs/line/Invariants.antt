@@ -1,9 +1,0 @@
--- `probe_calls::line` is safe and ends.
-use Prim.Native.Nat.{◌-◌, ◌≤◌}
-use Rattle.probe_calls.proofs.line.Given as goal
-
-abbrev pub invariant-loop-i : goal.invariant-loop-i
-invariant-loop-i l = l.i ≤ 33
-
-abbrev pub decreases-loop-i : goal.decreases-loop-i
-decreases-loop-i l = 33 - l.i
