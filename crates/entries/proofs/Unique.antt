@@ -22,6 +22,10 @@ use denote.Param.Laws.{Laws}
 use mir.Syntax.{Dict}
 use Rattle.entries.proofs.find.Reads as find
 use Rattle.entries.proofs.find.Kinds as find-kinds
+use Rattle.entries.proofs.slots.Reads as slots
+use Rattle.entries.proofs.slots.Kinds as slots-kinds
+use Rattle.entries.proofs.find_in_both.Reads as find-in-both
+use Rattle.entries.proofs.find_in_both.Kinds as find-in-both-kinds
 use Rattle.entries.specs.declared.Located.{Located}
 use Rattle.std.specs.Prelude as Std
 use Rattle.layouts.specs.declared.Refusal.{Refusal}
@@ -44,13 +48,13 @@ pub number_of_bytes_unique : (κs : Lfts 1) (a : Dens κs number-of-bytes-kinds.
 number_of_bytes_unique κs a r r' x x' p q = p ∙ sym q
 
 -- of entries as numbers, number k is the k-th of them; of bytes, the k-th of the numbers that they hold
-pub with_words : (κs : Lfts 1) (a : Dens κs number-of-numbers-kinds.ps) (r : ℕ) (x : AtExit (ended_of 1 number-of-numbers-kinds.ps number-of-numbers-kinds.r) κs)
+pub number_of_numbers_told : (κs : Lfts 1) (a : Dens κs number-of-numbers-kinds.ps) (r : ℕ) (x : AtExit (ended_of 1 number-of-numbers-kinds.ps number-of-numbers-kinds.r) κs)
     → number-of-numbers.Post κs a r x → r ≡ get_or a.0.now a.1.0 0
-with_words κs a r x p = p
+number_of_numbers_told κs a r x p = p
 
-pub with_bytes : (κs : Lfts 1) (a : Dens κs number-of-bytes-kinds.ps) (r : ℕ) (x : AtExit (ended_of 1 number-of-bytes-kinds.ps number-of-bytes-kinds.r) κs)
+pub number_of_bytes_told : (κs : Lfts 1) (a : Dens κs number-of-bytes-kinds.ps) (r : ℕ) (x : AtExit (ended_of 1 number-of-bytes-kinds.ps number-of-bytes-kinds.r) κs)
     → number-of-bytes.Post κs a r x → r ≡ get_or (entries_in a.0.now) a.1.0 0
-with_bytes κs a r x p = p
+number_of_bytes_told κs a r x p = p
 
 abbrev told_by : Result (ℕ × ℕ) → Std.Result Located Refusal
 told_by (ok p) = Ok (record { start = p.0; len = p.1 })
@@ -68,3 +72,12 @@ module _ (T : RattleType) (L : Laws T) (F : Form.Ghosts T.Denot) (d : Dict) wher
   pub find_unique : (κs : Lfts 3) (a : Dens κs (find-kinds.ps T L)) (r r' : Std.Result Located Refusal) (x x' : AtExit (ended_of 3 (find-kinds.ps T L) (find-kinds.r T L)) κs)
       → find.Post T L F d κs a r x → find.Post T L F d κs a r' x' → r ≡ r'
   find_unique κs a r r' x x' p q = found_unique r r' (p ∙ sym q)
+
+-- in both forms
+pub slots_unique : (κs : Lfts 2) (a : Dens κs slots-kinds.ps) (r r' : ℕ) (x x' : AtExit (ended_of 2 slots-kinds.ps slots-kinds.r) κs)
+    → slots.Post κs a r x → slots.Post κs a r' x' → r ≡ r'
+slots_unique κs a r r' x x' p q = p ∙ sym q
+
+pub find_in_both_unique : (κs : Lfts 3) (a : Dens κs find-in-both-kinds.ps) (r r' : Std.Result Located Refusal) (x x' : AtExit (ended_of 3 find-in-both-kinds.ps find-in-both-kinds.r) κs)
+    → find-in-both.Post κs a r x → find-in-both.Post κs a r' x' → r ≡ r'
+find_in_both_unique κs a r r' x x' p q = found_unique r r' (p ∙ sym q)

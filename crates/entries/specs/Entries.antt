@@ -12,6 +12,10 @@ use Rattle.std.specs.Prelude.{Ok, Err}
 abbrev pub slots_in : (bytes : List ℕ) → ℕ
 slots_in bytes = length bytes / 16
 
+-- and in what is lent in both forms, where two numbers make a slot
+abbrev pub slots_in_both : (words bytes : List ℕ) → ℕ
+slots_in_both words bytes = length words / 2 + slots_in bytes
+
 -- n numbers from a place on
 unfoldable pub numbers_from : (n at : ℕ) → (bytes : List ℕ) → List ℕ
 numbers_from zero at b = []
@@ -19,6 +23,10 @@ numbers_from (suc n) at b = number_at b at ∷ numbers_from n (at + 8) b
 
 abbrev pub entries_in : (bytes : List ℕ) → List ℕ
 entries_in b = numbers_from (2 * (length b / 16)) 0 b
+
+-- the numbers of what is lent in both forms
+unfoldable pub numbers_in : (words bytes : List ℕ) → List ℕ
+numbers_in words bytes = words ++ entries_in bytes
 
 -- start and length of string number i
 abbrev pub place_of : (bytes entries : List ℕ) → (i : ℕ) → Result (ℕ × ℕ)

@@ -1,8 +1,10 @@
 #![tactic(auto)]
 // Entries in lent memory: start and length of a string, as two numbers or as sixteen bytes. An entry may hold any numbers: the tests come before every sum.
 ghost use Rattle.std.specs.Prelude.{ℕ, List, ◌*◌, ◌<◌, ◌≡◌, refl, get_or};
-ghost use Rattle.layouts.specs.Writers.{slots_of};
-ghost use Rattle.entries.specs.Entries.{slots_in, entries_in, place_of, found};
+ghost use Rattle.layouts.specs.Primitive.{no_such_entry};
+ghost use Rattle.layouts.specs.Refusal.{plain};
+ghost use Rattle.layouts.specs.Writers.{slots_of, entry_start, entry_length};
+ghost use Rattle.entries.specs.Entries.{slots_in, slots_in_both, entries_in, numbers_in, place_of, found};
 ghost use Rattle.entries.specs.Forms.{bytes_counted};
 
 use layouts::Refusal;
@@ -79,15 +81,16 @@ impl Form for u8 {
     }
 }
 
-// Where string number i lies in s, or why there is none.
-pub fn find<T: Form>(s: &[u8], entries: &[T], i: usize) -> Result<Located, Refusal>
-    ensures { found result ≡ place_of s.now (T.numbers entries.now) i }
+fn no_such(i: usize) -> Refusal
+    ensures { result ≡ plain no_such_entry i }
 {
-    if T::slots(entries) <= i {
-        return Err(layouts::refuse(layouts::NO_SUCH_ENTRY, i));
-    }
-    let start = T::number(entries, NUMBERS * i);
-    let len = T::number(entries, NUMBERS * i + 1);
+    layouts::refuse(layouts::NO_SUCH_ENTRY, i)
+}
+
+// Where a string lies in s whose entry, number i of some, says start and length, or why there is none.
+fn locate(s: &[u8], start: u64, len: u64, i: usize) -> Result<Located, Refusal>
+    ensures { (es : List ℕ) → i < slots_of es → start ≡ entry_start es i → len ≡ entry_length es i → found result ≡ place_of s.now es i }
+{
     let n = s.len() as u64;
     if n < start {
         return Err(layouts::refuse(layouts::BAD_ENTRY, i));
@@ -99,4 +102,45 @@ pub fn find<T: Form>(s: &[u8], entries: &[T], i: usize) -> Result<Located, Refus
         start: start as usize,
         len: len as usize,
     })
+}
+
+// Where string number i lies in s, or why there is none.
+pub fn find<T: Form>(s: &[u8], entries: &[T], i: usize) -> Result<Located, Refusal>
+    ensures { found result ≡ place_of s.now (T.numbers entries.now) i }
+{
+    if T::slots(entries) <= i {
+        return Err(no_such(i));
+    }
+    let start = T::number(entries, NUMBERS * i);
+    let len = T::number(entries, NUMBERS * i + 1);
+    locate(s, start, len, i)
+}
+
+// Of entries lent in both forms, the numbers before the bytes: how many there are, or is room for.
+pub fn slots(words: &[u64], bytes: &[u8]) -> usize
+    ensures { result ≡ slots_in_both words.now bytes.now }
+{
+    u64::slots(words) + u8::slots(bytes)
+}
+
+// Number k of them, or 0 where there are not so many.
+fn number_of_both(words: &[u64], bytes: &[u8], k: usize) -> u64
+    ensures { result ≡ get_or (numbers_in words.now bytes.now) k 0 }
+{
+    if k < words.len() {
+        return words[k];
+    }
+    u8::number(bytes, k - words.len())
+}
+
+// Where string number i lies in s by them, or why there is none.
+pub fn find_in_both(s: &[u8], words: &[u64], bytes: &[u8], i: usize) -> Result<Located, Refusal>
+    ensures { found result ≡ place_of s.now (numbers_in words.now bytes.now) i }
+{
+    if slots(words, bytes) <= i {
+        return Err(no_such(i));
+    }
+    let start = number_of_both(words, bytes, NUMBERS * i);
+    let len = number_of_both(words, bytes, NUMBERS * i + 1);
+    locate(s, start, len, i)
 }

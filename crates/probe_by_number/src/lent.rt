@@ -8,6 +8,14 @@ fn pattern(i: usize) -> u8 {
     (1 + i % 251) as u8
 }
 
+// The pattern's next byte, without a division.
+fn after(b: u8) -> u8 {
+    if b < 251 {
+        return b + 1;
+    }
+    1
+}
+
 pub fn fill(s: &mut [u8]) {
     for (i, b) in s.iter_mut().enumerate() {
         *b = pattern(i);
@@ -19,10 +27,12 @@ pub fn is_kept(s: &[u8], from: usize) -> bool {
     if s.len() < from {
         return false;
     }
-    for i in from..s.len() {
-        if s[i] != pattern(i) {
+    let mut expected = pattern(from);
+    for b in &s[from..] {
+        if *b != expected {
             return false;
         }
+        expected = after(expected);
     }
     true
 }

@@ -18,6 +18,8 @@ use Rattle.views.proofs.entry_fault.Reads as entry-fault
 use Rattle.views.proofs.entry_fault.Kinds as entry-fault-kinds
 use Rattle.views.proofs.part.Reads as part
 use Rattle.views.proofs.part.Kinds as part-kinds
+use Rattle.views.proofs.part_in_both.Reads as part-in-both
+use Rattle.views.proofs.part_in_both.Kinds as part-in-both-kinds
 use Rattle.views.proofs.feature.Reads as feature
 use Rattle.views.proofs.feature.Kinds as feature-kinds
 use Rattle.views.proofs.feature_fault.Reads as feature-fault
@@ -53,6 +55,10 @@ same_view p q e i = (p i, (q i, e i))
 module _ (T : RattleType) (L : Laws T) (F : Form.Ghosts T.Denot) (d : Dict) where
   pub part_determined : Determined {A = List ℕ × (ℕ × ℕ)} 3 (part-kinds.ps T L) (part-kinds.r T L) (part.Post T L F d) (λ κs r. (r.now, r.ref_ptr))
   part_determined κs a r r' x x' p q = same_view (p.0 ∙ sym q.0) (p.1.0 ∙ sym q.1.0) (p.1.1 ∙ sym q.1.1)
+
+-- in both forms
+pub part_in_both_determined : Determined {A = List ℕ × (ℕ × ℕ)} 3 part-in-both-kinds.ps part-in-both-kinds.r part-in-both.Post (λ κs r. (r.now, r.ref_ptr))
+part_in_both_determined κs a r r' x x' p q = same_view (p.0 ∙ sym q.0) (p.1.0 ∙ sym q.1.0) (p.1.1 ∙ sym q.1.1)
 
 pub entry_determined : Determined {A = List ℕ × (ℕ × ℕ)} 2 entry-kinds.ps entry-kinds.r entry.Post (λ κs r. (r.now, r.ref_ptr))
 entry_determined κs a r r' x x' p q = same_view (p.0 ∙ sym q.0) (p.1.0 ∙ sym q.1.0) (p.1.1 ∙ sym q.1.1)

@@ -3,7 +3,7 @@
 ghost use Rattle.std.specs.Prelude.{◌≡◌, take};
 ghost use Rattle.layouts.specs.Primitive.{pick, same};
 ghost use Rattle.layouts.specs.Writers.{view_of, feature_of, part_of, store_directory, is_store_path};
-ghost use Rattle.entries.specs.Entries.{place_of};
+ghost use Rattle.entries.specs.Entries.{numbers_in, place_of};
 ghost use Rattle.views.specs.Fault.{meaning, fault_of, start_of, Begins};
 
 use entries::Form;
@@ -96,4 +96,23 @@ pub fn extract_store_path(s: &[u8]) -> bool
         return text::is_text(s);
     }
     false
+}
+
+// The same as part, with entries in both forms, the numbers before the bytes.
+pub fn part_in_both<'a, 'b, 'c>(
+    s: &'a [u8],
+    words: &'b [u64],
+    bytes: &'c [u8],
+    i: usize,
+) -> &'a [u8]
+    ensures part { result.now ≡ part_of (view_of s.now (numbers_in words.now bytes.now) i) }
+    ensures place { Begins result.ref_ptr s.entry.ref_ptr (start_of (place_of s.now (numbers_in words.now bytes.now) i)) }
+{
+    match entries::find_in_both(s, words, bytes, i) {
+        Ok(place) => {
+            let end = place.start + place.len;
+            &s[place.start..end]
+        }
+        Err(_) => &s[..0],
+    }
 }

@@ -9,6 +9,7 @@ ghost use Rattle.layouts.specs.Shape.{Target, Tree, ask, say, units};
 ghost use Rattle.layouts.specs.Record.{is_kept};
 ghost use Rattle.layouts.specs.Judge.{entry, entries_of, payload_of};
 ghost use Rattle.table.specs.Table.{role_of};
+ghost use Rattle.writers_output.specs.Numbers.{bytes_of};
 ghost use Rattle.walk_items.specs.Items.{after_number};
 ghost use Rattle.walk_rooms.specs.Rooms.{Put};
 ghost use Rattle.walk_fill.specs.There.{run_there, pieces_there};
@@ -321,10 +322,55 @@ pub fn fill_entries<T: Room>(
     fill(s, from, layout, entries, place, &mut none)
 }
 
-// The payload alone.
+// The payload alone. With bytes for entries it is the one fold that the exported calls have.
 pub fn fill_payload(s: &[u8], from: usize, layout: Layout, payload: &mut [u8])
     ensures { payload.new ≡ sets payload.old 0 (payload_of s.now (pieces_there layout s.now from)) }
 {
-    let mut none: [u64; 0] = [];
+    let mut none: [u8; 0] = [];
     fill(s, from, layout, &mut none, 0, payload);
+}
+
+// The places after the entries, in a room of numbers and in one of bytes.
+#[derive(Drop)]
+pub struct Places {
+    pub words: usize,
+    pub bytes: usize,
+}
+
+// The same as `fill` into a room of numbers and one of bytes.
+pub fn fill_in_both(
+    s: &[u8],
+    from: usize,
+    layout: Layout,
+    words: &mut [u64],
+    word: usize,
+    bytes: &mut [u8],
+    byte: usize,
+    payload: &mut [u8],
+) -> Places
+    ensures words { Put words.old word (entries_of (pieces_there layout s.now from)) words.new result.words }
+    ensures bytes { Put bytes.old byte (bytes_of (entries_of (pieces_there layout s.now from))) bytes.new result.bytes }
+    ensures payload { payload.new ≡ sets payload.old 0 (payload_of s.now (pieces_there layout s.now from)) }
+{
+    Places {
+        words: fill(s, from, layout, words, word, payload),
+        bytes: fill_entries(s, from, layout, bytes, byte),
+    }
+}
+
+// The entries alone into a room of numbers and one of bytes.
+pub fn fill_entries_in_both(
+    s: &[u8],
+    from: usize,
+    layout: Layout,
+    words: &mut [u64],
+    word: usize,
+    bytes: &mut [u8],
+    byte: usize,
+) -> Places
+    ensures words { Put words.old word (entries_of (pieces_there layout s.now from)) words.new result.words }
+    ensures bytes { Put bytes.old byte (bytes_of (entries_of (pieces_there layout s.now from))) bytes.new result.bytes }
+{
+    let mut none: [u8; 0] = [];
+    fill_in_both(s, from, layout, words, word, bytes, byte, &mut none)
 }

@@ -11,6 +11,8 @@ use denote.Triple.Clauses.{AtExit}
 use Rattle.walk_judge.proofs.Unique.{said_told}
 use Rattle.walk_read.proofs.read.Reads as read
 use Rattle.walk_read.proofs.read.Kinds as read-kinds
+use Rattle.walk_read.proofs.read_in_both.Reads as read-in-both
+use Rattle.walk_read.proofs.read_in_both.Kinds as read-in-both-kinds
 use Rattle.walk_judge.specs.declared.Said.{Said}
 use Rattle.layouts.specs.declared.Refusal.{Refusal}
 use Rattle.std.specs.Prelude.{Result}
@@ -26,3 +28,15 @@ module _ (T : RattleType) (L : Laws T) (R : Room.Ghosts T.Denot) (d : Dict) (F :
     p.1.0 ∙ sym q.1.0,
     p.1.1 ∙ sym q.1.1,
   )
+
+-- in both forms
+pub read_in_both_unique : (κs : Lfts 6) (a : Dens κs read-in-both-kinds.ps) (r r' : Result Said Refusal) (x x' : AtExit (ended_of 6 read-in-both-kinds.ps read-in-both-kinds.r) κs)
+    → read-in-both.Post κs a r x → read-in-both.Post κs a r' x'
+    → ((r ≡ r') × (x.1.1.1.1.1.1.0.now ≡ x'.1.1.1.1.1.1.0.now) × (x.1.1.1.1.1.1.1.0.now ≡ x'.1.1.1.1.1.1.1.0.now))
+    × (x.1.1.1.0.now ≡ x'.1.1.1.0.now) × (x.1.1.1.1.0.now ≡ x'.1.1.1.1.0.now) × (x.1.1.1.1.1.0.now ≡ x'.1.1.1.1.1.0.now)
+read_in_both_unique κs a r r' x x' p q = (
+  said_told r r' x.1.1.1.1.1.1.0.now x.1.1.1.1.1.1.1.0.now x'.1.1.1.1.1.1.0.now x'.1.1.1.1.1.1.1.0.now (p.0 ∙ sym q.0),
+  p.1.0 ∙ sym q.1.0,
+  p.1.1.0 ∙ sym q.1.1.0,
+  p.1.1.1 ∙ sym q.1.1.1,
+)

@@ -4,6 +4,8 @@
 ghost use Rattle.std.specs.Prelude.{◌≡◌};
 ghost use Rattle.std.proofs.lemmas.List.Edits.{sets};
 ghost use Rattle.layouts.specs.Judge.{entries_of, payload_of};
+ghost use Rattle.entries.specs.Entries.{slots_in_both};
+ghost use Rattle.writers_output.specs.Numbers.{bytes_of};
 ghost use Rattle.walk_items.specs.Items.{pieces_of};
 ghost use Rattle.walk_judge.specs.Judged.{answer_of};
 ghost use Rattle.walk_read.specs.Reading.{Planned, layout_filled};
@@ -74,5 +76,53 @@ pub fn read<T: Room>(
         entries: k.entries,
         payload: k.payload,
         present: k.present,
+    })
+}
+
+// The same into a room of numbers and one of bytes, by the slots of both.
+pub fn read_in_both(
+    s: &[u8],
+    layout: Layout,
+    code: u8,
+    words: &mut [u64],
+    bytes: &mut [u8],
+    payload: &mut [u8],
+    numbers: &mut [u64; 12],
+    counts: &mut [u64; 3],
+) -> Result<Said, Refusal>
+    ensures answer { answer_of result numbers.new counts.new
+        ≡ (layout_filled (λ ns. ns) (slots_in_both words.old bytes.old) layout code s.now words.old payload.old).answer }
+    ensures words { words.new ≡ (layout_filled (λ ns. ns) (slots_in_both words.old bytes.old) layout code s.now words.old payload.old).entries }
+    ensures bytes { bytes.new ≡ (layout_filled bytes_of (slots_in_both words.old bytes.old) layout code s.now bytes.old payload.old).entries }
+    ensures payload { payload.new ≡ (layout_filled (λ ns. ns) (slots_in_both words.old bytes.old) layout code s.now words.old payload.old).payload }
+{
+    *numbers = [0u64; 12];
+    *counts = [0u64; 3];
+    let mut window = [0u64; 16];
+    let mut none: [u8; 0] = [];
+    let slots = entries::slots(words, bytes);
+    let room = payload.len();
+    let j = walk_judge::judge(
+        s,
+        0,
+        layout,
+        slots,
+        room,
+        0,
+        0,
+        false,
+        numbers,
+        counts,
+        &mut window,
+    )?;
+    fill_in(s, layout, j.entries, j.payload, &window, words, payload);
+    fill_in(s, layout, j.entries, j.payload, &window, bytes, &mut none);
+    Ok(Said {
+        kind: table_operations::kind_of(code, walk_items::spoken(layout), j.present),
+        ends: j.ends,
+        ends2: 0,
+        entries: j.entries,
+        payload: j.payload,
+        present: j.present,
     })
 }

@@ -16,7 +16,7 @@ use Rattle.writers_output.proofs.Laws as Output
 use Rattle.writers_output.proofs.Numbers.{bytes_length}
 use Rattle.walk_rooms.specs.Rooms.{place_after, Put, Filling, filled_after}
 use Rattle.layouts.specs.Writers.{slots_of}
-use Rattle.entries.specs.Entries.{slots_in}
+use Rattle.entries.specs.Entries.{slots_in, slots_in_both}
 
 set_past : {A : Type 0} (l : List A) (i : ℕ) (x : A) → length l ≤ i → set l i x ≡ l
 set_past {A = A} [] i x h = refl
@@ -227,10 +227,26 @@ fitting (refused which place stream) new lent h = refl
 
 -- a call with a room for entries as numbers, or as bytes: what it reports fits
 module _ {A : Type 0} (o : ℕ → Result A) (whole : List ℕ) (fits : (n : ℕ) (x : A) → o n ≡ ok x → length whole ≤ 2 * n) (lent out : List ℕ) where
-  pub with_words : out ≡ filled_after (o (slots_of lent)) whole lent → out ≡ lent_after (o (slots_of lent)) whole lent
-  with_words h = h ∙ fitting (o (slots_of lent)) whole lent (λ x q. let g = fits (slots_of lent) x q in omega arith)
+  pub words_after : out ≡ filled_after (o (slots_of lent)) whole lent → out ≡ lent_after (o (slots_of lent)) whole lent
+  words_after h = h ∙ fitting (o (slots_of lent)) whole lent (λ x q. let g = fits (slots_of lent) x q in omega arith)
 
-  pub with_bytes : out ≡ filled_after (o (slots_in lent)) (bytes_of whole) lent → out ≡ lent_after (o (slots_in lent)) (bytes_of whole) lent
-  with_bytes h =
+  pub bytes_after : out ≡ filled_after (o (slots_in lent)) (bytes_of whole) lent → out ≡ lent_after (o (slots_in lent)) (bytes_of whole) lent
+  bytes_after h =
       let l = bytes_length whole in
       h ∙ fitting (o (slots_in lent)) (bytes_of whole) lent (λ x q. let g = fits (slots_in lent) x q in omega arith)
+
+-- a call with both rooms, of which one is empty
+module _ {A C : Type 0} (o : ℕ → Result A) (f : Result A → C) (whole : List ℕ) (fits : (n : ℕ) (x : A) → o n ≡ ok x → length whole ≤ 2 * n) (r : C) (words ws bytes bs : List ℕ)
+    (h : (r ≡ f (o (slots_in_both words bytes)))
+    × ((ws ≡ filled_after (o (slots_in_both words bytes)) whole words) × (bs ≡ filled_after (o (slots_in_both words bytes)) (bytes_of whole) bytes))) where
+  pub with_words : bytes ≡ [] → (r ≡ f (o (length words / 2))) × (ws ≡ lent_after (o (length words / 2)) whole words)
+  with_words e =
+      let z = ap length e in
+      let k : slots_in_both words bytes ≡ length words / 2 = omega arith in
+      (h.0 ∙ ap (λ (i : ℕ). f (o i)) k, words_after o whole fits words ws (h.1.0 ∙ ap (λ (i : ℕ). filled_after (o i) whole words) k))
+
+  pub with_bytes : words ≡ [] → (r ≡ f (o (length bytes / 16))) × (bs ≡ lent_after (o (length bytes / 16)) (bytes_of whole) bytes)
+  with_bytes e =
+      let z = ap length e in
+      let k : slots_in_both words bytes ≡ length bytes / 16 = omega arith in
+      (h.0 ∙ ap (λ (i : ℕ). f (o i)) k, bytes_after o whole fits bytes bs (h.1.1 ∙ ap (λ (i : ℕ). filled_after (o i) (bytes_of whole) bytes) k))

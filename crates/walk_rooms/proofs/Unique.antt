@@ -19,6 +19,8 @@ use Rattle.walk_rooms.proofs.U8Room.put_entry.Reads as put-entry-bytes
 use Rattle.walk_rooms.proofs.U8Room.put_entry.Kinds as put-entry-bytes-kinds
 use Rattle.walk_rooms.proofs.put_window.Reads as put-window
 use Rattle.walk_rooms.proofs.put_window.Kinds as put-window-kinds
+use Rattle.walk_rooms.proofs.put_window_in_both.Reads as put-window-in-both
+use Rattle.walk_rooms.proofs.put_window_in_both.Kinds as put-window-in-both-kinds
 
 pub put_told : {A : Type 0} (lent : List A) (at : ℕ) (vs out out' : List A) (n n' : ℕ) → Put lent at vs out n → Put lent at vs out' n' → (n ≡ n') × (out ≡ out')
 put_told lent at vs out out' n n' p q = (p.place ∙ sym q.place, p.then [] ∙ sym (q.then []))
@@ -40,3 +42,8 @@ module _ (T : RattleType) (L : Laws T) (R : Room.Ghosts T.Denot) (d : Dict) (F :
   pub put_window_unique : (κs : Lfts 3) (a : Dens κs (put-window-kinds.ps T L)) (r r' : Unit {0}) (x x' : AtExit (ended_of 3 (put-window-kinds.ps T L) (put-window-kinds.r T L)) κs)
       → put-window.Post T L R d F e κs a r x → put-window.Post T L R d F e κs a r' x' → x.1.1.0.now ≡ x'.1.1.0.now
   put_window_unique κs a r r' x x' p q = p ∙ sym q
+
+-- in both forms
+pub put_window_in_both_unique : (κs : Lfts 3) (a : Dens κs put-window-in-both-kinds.ps) (r r' : Unit {0}) (x x' : AtExit (ended_of 3 put-window-in-both-kinds.ps put-window-in-both-kinds.r) κs)
+    → put-window-in-both.Post κs a r x → put-window-in-both.Post κs a r' x' → (x.1.1.0.now ≡ x'.1.1.0.now) × (x.1.1.1.0.now ≡ x'.1.1.1.0.now)
+put_window_in_both_unique κs a r r' x x' p q = (p.0 ∙ sym q.0, p.1 ∙ sym q.1)

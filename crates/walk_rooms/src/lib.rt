@@ -114,3 +114,12 @@ pub fn put_window<T: Room>(window: &[u64], n: usize, out: &mut [T])
         at = T::put_entry(out, at, start, len);
     }
 }
+
+// The same into a room of numbers and one of bytes.
+pub fn put_window_in_both(window: &[u64], n: usize, words: &mut [u64], bytes: &mut [u8])
+    ensures words { words.new ≡ sets words.old 0 (take (2 * min n (length window.now / 2)) window.now) }
+    ensures bytes { bytes.new ≡ sets bytes.old 0 (bytes_of (take (2 * min n (length window.now / 2)) window.now)) }
+{
+    put_window(window, n, words);
+    put_window(window, n, bytes);
+}

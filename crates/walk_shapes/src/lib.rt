@@ -1,5 +1,7 @@
 #![tactic(auto)]
 // A shape of an operation, read from the start of the stream: a layout in brief, or judged and filled in.
+mod both;
+
 ghost use Rattle.std.specs.Prelude.{◌≡◌, List, ℕ, ◌<◌};
 ghost use Rattle.layouts.specs.Judge.{entries_of};
 ghost use Rattle.layouts.specs.Primitive.{Version, version};
@@ -12,6 +14,7 @@ ghost use Rattle.walk_read.specs.Reading.{read_by, answered_as};
 ghost use Rattle.walk_rooms.specs.Rooms.{filled_after};
 ghost use Rattle.walk_shapes.specs.Shapes.{ReadInBrief, text_read, text_pieces, text_told, arguments_filled, reply_filled};
 
+pub use both::{read_arguments_in_both, read_reply_in_both};
 use layouts::{Mode, Refusal};
 use walk_items::{Brief, Layout};
 use walk_judge::Said;

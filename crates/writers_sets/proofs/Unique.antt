@@ -19,6 +19,10 @@ use Rattle.writers_sets.proofs.judge_strings.Reads as judge_strings
 use Rattle.writers_sets.proofs.judge_strings.Kinds as judge-strings-kinds
 use Rattle.writers_sets.proofs.put_strings.Reads as put-strings
 use Rattle.writers_sets.proofs.put_strings.Kinds as put-strings-kinds
+use Rattle.writers_sets.proofs.judge_strings_in_both.Reads as judge-strings-in-both
+use Rattle.writers_sets.proofs.judge_strings_in_both.Kinds as judge-strings-in-both-kinds
+use Rattle.writers_sets.proofs.put_strings_in_both.Reads as put-strings-in-both
+use Rattle.writers_sets.proofs.put_strings_in_both.Kinds as put-strings-in-both-kinds
 use Rattle.layouts.specs.declared.Refusal.{Refusal}
 use Rattle.std.specs.Prelude.{Result}
 
@@ -44,3 +48,12 @@ module _ (T : RattleType) (L : Laws T) (F : Form.Ghosts T.Denot) (d : Dict) wher
   pub put_strings_once : (κs : Lfts 4) (a : Dens κs (put-strings-kinds.ps T L)) (r r' : ℕ) (x y : AtExit (ended_of 4 (put-strings-kinds.ps T L) (put-strings-kinds.r T L)) κs)
       → put-strings.Post T L F d κs a r x → put-strings.Post T L F d κs a r' y → (r ≡ r') × (x.0.now ≡ y.0.now)
   put_strings_once κs a r r' x y p q = (p.0 ∙ sym q.0, p.1 ∙ sym q.1)
+
+-- in both forms
+pub judge_strings_in_both_once : (κs : Lfts 4) (a : Dens κs judge-strings-in-both-kinds.ps) (v w : Result ℕ Refusal) (x y : AtExit (ended_of 4 judge-strings-in-both-kinds.ps judge-strings-in-both-kinds.r) κs)
+    → judge-strings-in-both.Post κs a v x → judge-strings-in-both.Post κs a w y → v ≡ w
+judge_strings_in_both_once κs a v w x y p q = meaning_once v w (p ∙ sym q)
+
+pub put_strings_in_both_once : (κs : Lfts 4) (a : Dens κs put-strings-in-both-kinds.ps) (r r' : ℕ) (x y : AtExit (ended_of 4 put-strings-in-both-kinds.ps put-strings-in-both-kinds.r) κs)
+    → put-strings-in-both.Post κs a r x → put-strings-in-both.Post κs a r' y → (r ≡ r') × (x.0.now ≡ y.0.now)
+put_strings_in_both_once κs a r r' x y p q = (p.0 ∙ sym q.0, p.1 ∙ sym q.1)

@@ -4,7 +4,7 @@ ghost use Rattle.std.specs.Prelude.{◌≡◌, ◌-◌, ◌≤◌, length};
 ghost use Rattle.layouts.specs.Writers.{set_bytes, texts_from, texts_of, write_string_set};
 ghost use Rattle.writers_output.specs.Answer.{meaning};
 ghost use Rattle.writers_output.specs.Placed.{placed};
-ghost use Rattle.entries.specs.Entries.{entries_in};
+ghost use Rattle.entries.specs.Entries.{entries_in, numbers_in};
 ghost use Rattle.writers_sets.specs.Sets.{fitting, text_taken, entry_taken, grown, strings_judged, set_judged, parts_from, strings_put, set_output};
 
 use entries::Form;
@@ -138,4 +138,59 @@ pub fn write_string_set_bytes(out: &mut [u8], bytes: &[u8], entries: &[u8], coun
     ensures lent { out.new ≡ set_output bytes.now (entries_in entries.now) count out.old }
 {
     write(out, bytes, entries, count)
+}
+
+// How many bytes entry i takes as a string, with entries in both forms, the numbers before the bytes.
+fn judge_entry_in_both(s: &[u8], words: &[u64], bytes: &[u8], i: usize) -> Written
+    ensures { meaning result ≡ entry_taken s.now (numbers_in words.now bytes.now) i }
+{
+    let place = entries::find_in_both(s, words, bytes, i)?;
+    let end = place.start + place.len;
+    judge_text(&s[place.start..end], i)
+}
+
+// The same as judge_strings, with entries in both forms.
+pub fn judge_strings_in_both(
+    out: &[u8],
+    before: usize,
+    s: &[u8],
+    words: &[u64],
+    bytes: &[u8],
+    count: usize,
+) -> Written
+    ensures { meaning result ≡ strings_judged (length out.now) before (texts_from s.now (numbers_in words.now bytes.now) count 0) }
+{
+    let room = out.len();
+    let mut sum = before;
+    for i in 0..count {
+        let n = judge_entry_in_both(s, words, bytes, i)?;
+        sum = grow(room, sum, n);
+    }
+    fit(sum, room)
+}
+
+// The same as put_strings, with entries in both forms.
+pub fn put_strings_in_both(
+    out: &mut [u8],
+    at: usize,
+    s: &[u8],
+    words: &[u64],
+    bytes: &[u8],
+    i: usize,
+    next: usize,
+) -> usize
+    ensures place { result ≡ (strings_put at (parts_from s.now (numbers_in words.now bytes.now) (next - i) i) out.old).0 }
+    ensures out { out.new ≡ (strings_put at (parts_from s.now (numbers_in words.now bytes.now) (next - i) i) out.old).1 }
+{
+    let mut at = at;
+    for k in i..next {
+        let c = views::part_in_both(s, words, bytes, k);
+        let n = writers_output::string_length(c);
+        if !writers_output::has_room(out.len(), at, n) {
+            return at;
+        }
+        writers_output::put_string(out, at, c);
+        at += n;
+    }
+    at
 }

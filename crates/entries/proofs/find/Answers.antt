@@ -1,11 +1,11 @@
 -- `entries::find` meets its contract: by the slots, and by the numbers of the entry.
 use native.Mathlib.Omega.{arith}
 use mathlib.Core.Path.{◌∙◌}
-use Rattle.entries.proofs.Places.{no_such, bad, good}
+use Rattle.entries.proofs.Places.{no_such}
 use Rattle.entries.proofs.find.Goals as goal
 
 pub returns-then-slots-i : goal.returns-then-slots-i
-returns-then-slots-i g c = no_such _ _ _ _ (c.slots.ensures.slots ∙ g.met.T.Form.counted _) c.if-slots-i.true _ c.refuse.ensures
+returns-then-slots-i g c = no_such _ _ _ _ (c.slots.ensures.slots ∙ g.met.T.Form.counted _) c.if-slots-i.true _ c.no_such.ensures
 
 pub overflow_mul-i : goal.overflow_mul-i
 overflow_mul-i g c = let counted = g.met.T.Form.counted c.args.entries.now in let few = c.slots.ensures in omega (arith, counted)
@@ -16,20 +16,8 @@ overflow_mul-i-2 g c = let counted = g.met.T.Form.counted c.args.entries.now in 
 pub overflow_add-i : goal.overflow_add-i
 overflow_add-i g c = let counted = g.met.T.Form.counted c.args.entries.now in let few = c.slots.ensures in omega (arith, counted)
 
-pub returns-then-n-start : goal.returns-then-n-start
-returns-then-n-start g c =
-    let counted = g.met.T.Form.counted c.args.entries.now in
-    let few = c.slots.ensures in
-    bad _ _ _ _ _ (omega (arith, counted)) c.number-start.ensures c.number-len.ensures (omega arith) _ c.refuse-then-n-start.ensures
-
-pub returns-then-n-start-2 : goal.returns-then-n-start-2
-returns-then-n-start-2 g c =
-    let counted = g.met.T.Form.counted c.args.entries.now in
-    let few = c.slots.ensures in
-    bad _ _ _ _ _ (omega (arith, counted)) c.number-start.ensures c.number-len.ensures (omega arith) _ c.refuse-then-n-start-2.ensures
-
 pub returns : goal.returns
 returns g c =
     let counted = g.met.T.Form.counted c.args.entries.now in
     let few = c.slots.ensures in
-    good _ _ _ _ _ (omega (arith, counted)) c.number-start.ensures c.number-len.ensures (omega arith)
+    c.locate.ensures _ (omega (arith, counted)) c.number-start.ensures c.number-len.ensures

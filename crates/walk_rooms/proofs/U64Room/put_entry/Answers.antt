@@ -1,4 +1,4 @@
--- `walk_rooms::put_entry` meets its contract: two numbers, one after the other.
+-- `put_entry` of `Room` for numbers meets its contract: two numbers, one after the other.
 use mathlib.Core.Path.{◌∙◌}
 use Rattle.walk_rooms.proofs.Laws.{put_two}
 use Rattle.walk_rooms.proofs.U64Room.put_entry.Goals as goal

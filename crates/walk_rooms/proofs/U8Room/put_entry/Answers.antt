@@ -1,4 +1,4 @@
--- `walk_rooms::put_entry_bytes` meets its contract: two numbers where the room holds both.
+-- `put_entry` of `Room` for bytes meets its contract: two numbers where the room holds both.
 use native.Mathlib.Omega.{arith}
 use Rattle.walk_rooms.proofs.Laws.{put_numbers}
 use Rattle.walk_rooms.proofs.U8Room.put_entry.Goals as goal
